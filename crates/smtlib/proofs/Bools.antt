@@ -1,12 +1,12 @@
 -- Tests that compute, as facts.
-use mathlib.Core.Path.{_≡_, refl, sym, subst, subst⁻¹}
+use mathlib.Core.Path.{_≡_, refl, subst, subst⁻¹}
 use mathlib.Core.Bool.{Bool, true, false, not, _&&_, _||_}
 use mathlib.Core.Logic.{_⊎_, inl, inr}
 use mathlib.Core.List.{List, [], _∷_, _++_}
 use Prim.Native.String.{String}
 use Prim.Native.Nat.{ℕ}
 use native.Mathlib.Omega.{arith}
-use lib.Dec.{T, eqb, eqb→eq}
+use lib.Dec.{T, eqb, eqb→eq, not-T}
 use Rattle.smtlib.specs.Lexicon.{bytes, all, any, same, among}
 
 pub is-true : (v : Bool) → T v → v ≡ true
@@ -16,6 +16,10 @@ is-true false t = absurd t
 pub is-false : (v : Bool) → T (not v) → v ≡ false
 is-false true t = absurd t
 is-false false t = refl
+
+-- a test that cannot hold is false
+pub never : (v : Bool) → (T v → ⊥) → v ≡ false
+never v f = is-false v (not-T v f)
 
 pub true-holds : {v : Bool} → v ≡ true → T v
 true-holds e = subst⁻¹ T e tt

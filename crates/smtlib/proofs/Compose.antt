@@ -1,12 +1,11 @@
 -- The parts of a writer's text: `composition` and `string-spells`.
 use mathlib.Core.Path.{_≡_, refl, ap, subst}
-use mathlib.Core.Bool.{Bool, true, false, not, cond, _||_}
 use mathlib.Core.List.{List, [], _∷_, _++_, append-assoc, append-nil}
 use Prim.Native.Nat.{ℕ}
 use lib.Dec.{T, eqb, eqb→eq, not-T}
 use Rattle.smtlib.specs.Lexicon.{class, all, visible, stringByte}
 use Rattle.smtlib.specs.Read.{doubled, Spells, as-string, string, Item, closing, token, opening, noLineFeed, done, skip, comment, opens, closes, spells, Sexps, end, atom, list, items, script}
-use Rattle.smtlib.specs.Compose.{append, paren, quotes, noQuote}
+use Rattle.smtlib.specs.Compose.{append, quotes, noQuote}
 use Rattle.smtlib.specs.Theorems.{Composition, StringSpells}
 use Rattle.smtlib.proofs.Bools.{is-true, is-false, all-head, all-tail, all-map}
 

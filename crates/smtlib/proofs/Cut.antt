@@ -3,7 +3,7 @@ use mathlib.Core.Path.{_≡_, refl, sym, ap, _∙_, subst, subst⁻¹}
 use mathlib.Core.Bool.{Bool, true, false, cond}
 use mathlib.Core.Logic.{_⊎_, inl, inr}
 use mathlib.Core.List.{List, [], _∷_, _++_, append-nil}
-use Prim.Native.Nat.{ℕ, zero, suc, _+_, _-_, _≤_, _<_}
+use Prim.Native.Nat.{ℕ, zero, suc, _+_, _-_, _≤_}
 use native.Mathlib.Omega.{arith}
 use native.Mathlib.Decide.{decLe}
 use lib.Dec.{T, eqb, eqb→eq}
@@ -12,12 +12,12 @@ use lib.Seq.{take-append-le, take-append-add, take-length}
 use Rattle.smtlib.specs.Lexicon.{Class, rightParen, quote, class, all, quotedByte}
 use Rattle.smtlib.specs.Read.{Token, doubled, Spells, as-word, as-string, as-quoted, Item, opening, closing, token, Parted, noLineFeed, LineEnds}
 use Rattle.smtlib.specs.Read.{Lexes, done, skip, comment, opens, closes, spells, Command, script, Reading}
-use Rattle.smtlib.specs.Cut.{Mode, inCode, inComment, inString, inQuoted, Scan, at, meet, step, scan, depth, commands, outside, closed}
+use Rattle.smtlib.specs.Cut.{Mode, inCode, inComment, inString, inQuoted, Scan, at, meet, step, scan, depth, commands, closed}
 use Rattle.smtlib.specs.Theorems.{Unique, Prefix, Whole, Cuts}
 use Rattle.smtlib.proofs.Bools.{is-true, is-false, true-holds, all-head, all-tail}
 use Rattle.smtlib.proofs.Plain.{plainByte, is-plain, kind-plain}
 use Rattle.smtlib.proofs.Lexer.{quoted-no-bar, line-feed-blank, unique-items}
-use Rattle.smtlib.proofs.Nest.{Level, lev, down, leave, up, past, pasts, Nested, script-injective, pasts-script, nested-script, First, cut-script}
+use Rattle.smtlib.proofs.Nest.{Level, lev, down, leave, up, pasts, Nested, script-injective, pasts-script, nested-script, First, cut-script}
 
 -- THE SCAN'S LEVEL
 

@@ -1,6 +1,6 @@
 -- Worked examples. Nothing rests on them: they show what the definitions say of some texts.
 use mathlib.Core.Path.{_≡_, refl}
-use mathlib.Core.Option.{Option, none, some}
+use mathlib.Core.Option.{none}
 use mathlib.Core.List.{List, [], _∷_, _++_}
 use Prim.Native.Nat.{ℕ}
 use Prim.Native.Char.{code}
@@ -8,7 +8,7 @@ use Prim.Native.String.{String}
 use lib.Dec.{T, lit<}
 use Rattle.smtlib.specs.Lexicon.{bytes, class, Kind, isSymbol, reservedWords, numeral, hexadecimal, binary, symbol, keyword, reserved}
 use Rattle.smtlib.specs.Lexicon.{decimal as decimalKind}
-use Rattle.smtlib.specs.Read.{Token, word, string, quoted, as-word, Sexps, end, atom, list, Command, Reading}
+use Rattle.smtlib.specs.Read.{word, string, quoted, as-word, Sexps, end, atom, list, Command, Reading}
 use Rattle.smtlib.specs.Cut.{outside, closed}
 use Rattle.smtlib.specs.Compose.{append, Says, Follows, paren, line, decimal}
 use Rattle.smtlib.specs.Theorems.{Composition, ReadAtCuts}

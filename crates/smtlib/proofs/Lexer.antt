@@ -2,14 +2,14 @@
 -- every text that has any, so no text has two lists of items. `sound`: what it finds is there.
 use mathlib.Core.Path.{_≡_, refl, sym, ap, _∙_, subst, subst⁻¹}
 use mathlib.Core.Bool.{Bool, true, false, not, cond, _&&_, _||_}
-use mathlib.Core.Option.{Option, none, some, Option·none-ne-some}
+use mathlib.Core.Option.{some, Option·none-ne-some}
 use mathlib.Core.List.{List, [], _∷_, _++_, append-assoc, append-nil}
 use Prim.Native.Nat.{ℕ}
 use lib.Dec.{T, eqb, eqb→eq}
-use Rattle.smtlib.specs.Lexicon.{Class, blank, semicolon, leftParen, rightParen, quote, bar, plain, class, Kind, symbol, isOf, all, stringByte, quotedByte}
+use Rattle.smtlib.specs.Lexicon.{Class, blank, semicolon, leftParen, rightParen, quote, bar, plain, class, Kind, symbol, all, stringByte, quotedByte}
 use Rattle.smtlib.specs.Read.{Token, word, string, quoted, doubled, Spells, as-word, as-string, as-quoted, Item, opening, closing, token, parts, Parted, noLineFeed, LineEnds}
 use Rattle.smtlib.specs.Read.{Lexes, done, skip, comment, opens, closes, spells}
-use Rattle.smtlib.proofs.Bools.{is-true, is-false, true-holds, false-fails, and-left, and-right, both, all-head, all-tail, all-snoc}
+use Rattle.smtlib.proofs.Bools.{is-true, is-false, never, true-holds, false-fails, and-left, and-right, all-head, all-tail, all-snoc}
 use Rattle.smtlib.proofs.Plain.{class-says, isPlain, plainByte, is-plain, kind-plain}
 use Rattle.smtlib.proofs.OneKind.{kindOf, isSome, kind-or, kind-of, of-kind}
 
@@ -26,11 +26,7 @@ parts-not-plain plain t = absurd t
 
 parts-no-quote : (b : ℕ) → T (parts (class b)) → eqb b 34 ≡ false
 unfolding class
-parts-no-quote b h = go (eqb b 34) refl
-  where
-    go : (v : Bool) → eqb b 34 ≡ v → eqb b 34 ≡ false
-    go false e = e
-    go true e = absurd (subst (λ (n : ℕ). T (parts (class n))) (eqb→eq b 34 (true-holds e)) h)
+parts-no-quote b h = never (eqb b 34) (λ t. subst (λ (n : ℕ). T (parts (class n))) (eqb→eq b 34 t) h)
 
 pub line-feed-blank : (b : ℕ) → T (eqb b 10) → class b ≡ blank
 unfolding class

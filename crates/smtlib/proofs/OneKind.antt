@@ -1,16 +1,16 @@
 -- A word is of at most one kind: `kind-of`.
-use mathlib.Core.Path.{_≡_, refl, sym, ap, _∙_, subst, subst⁻¹}
-use mathlib.Core.Bool.{Bool, true, false, not, cond, _&&_, _||_}
+use mathlib.Core.Path.{_≡_, refl, sym, ap, _∙_, subst}
+use mathlib.Core.Bool.{Bool, true, false, not, cond, _&&_}
 use mathlib.Core.Option.{Option, none, some}
 use mathlib.Core.List.{List, [], _∷_}
 use Prim.Native.Nat.{ℕ}
 use native.Mathlib.Omega.{arith}
-use lib.Dec.{T, eqb, eqb→eq, T-not, not-T}
+use lib.Dec.{T, eqb, eqb→eq, T-not}
 use Rattle.smtlib.specs.Lexicon.{all, digit, hexDigit, between, symbolByte, isNumeral, beforePoint, behindPoint, isDecimal, run, isRadix, isReserved, reservedWords, isSimple, isSymbol, isKeyword}
 use Rattle.smtlib.specs.Lexicon.{Kind, numeral, decimal, hexadecimal, binary, reserved, symbol, keyword, isOf}
 use borrow.Author.Tests.{eq-eqb}
 use Rattle.smtlib.proofs.Plain.{numeral-digits}
-use Rattle.smtlib.proofs.Bools.{is-true, is-false, true-holds, false-fails, and-left, and-right, all-head, all-tail, among-each}
+use Rattle.smtlib.proofs.Bools.{is-true, is-false, never, true-holds, and-left, and-right, all-head, all-tail, among-each}
 
 -- WHAT THE FIRST BYTE SAYS
 
@@ -60,10 +60,10 @@ symbol-leads [] h = absurd h
 symbol-leads (b ∷ w) h =
     let s : T (isSimple (b ∷ w)) = and-left (isSimple (b ∷ w)) _ h in
     let t : T (symbolByte b) = all-head symbolByte b w (and-right (not (digit b)) _ s) in
-    rw (is-false (digit b) (and-left (not (digit b)) _ s), is-false (eqb b 35) (apart 35 t (λ k. k)), is-false (eqb b 58) (apart 58 t (λ k. k)))
+    rw (is-false (digit b) (and-left (not (digit b)) _ s), apart 35 t (λ k. k), apart 58 t (λ k. k))
   where
-    apart : (x : ℕ) → T (symbolByte b) → (T (symbolByte x) → ⊥) → T (not (eqb b x))
-    apart x t n = not-T (eqb b x) (λ e. n (subst (λ (y : ℕ). T (symbolByte y)) (eqb→eq b x e) t))
+    apart : (x : ℕ) → T (symbolByte b) → (T (symbolByte x) → ⊥) → eqb b x ≡ false
+    apart x t n = never (eqb b x) (λ e. n (subst (λ (y : ℕ). T (symbolByte y)) (eqb→eq b x e) t))
 
 keyword-leads : (w : List ℕ) → T (isKeyword w) → leadOf w ≡ 2
 keyword-leads [] h = absurd h
@@ -80,13 +80,8 @@ leads keyword w h = keyword-leads w h
 
 -- a word of one kind is of no other that begins otherwise
 other : (k j : Kind) (w : List ℕ) → T (isOf k w) → T (not (eqb (lead k) (lead j))) → isOf j w ≡ false
-other k j w h n = go (isOf j w) refl
-  where
-    go : (v : Bool) → isOf j w ≡ v → v ≡ false
-    go false e = refl
-    go true e =
-        let same : lead k ≡ lead j = sym (leads k w h) ∙ leads j w (true-holds e) in
-        absurd (T-not (eqb (lead k) (lead j)) n (true-holds (eq-eqb (lead k) (lead j) same)))
+other k j w h n =
+    never (isOf j w) (λ t. T-not (eqb (lead k) (lead j)) n (true-holds (eq-eqb (lead k) (lead j) (sym (leads k w h) ∙ leads j w t))))
 
 -- KINDS THAT BEGIN ALIKE
 
@@ -99,12 +94,9 @@ no-point (b ∷ w) h = go (eqb b 46) refl (no-point w (all-tail digit b w h))
     go true e ih = absurd (subst (λ (n : ℕ). T (digit n)) (eqb→eq b 46 (true-holds e)) (all-head digit b w h))
 
 decimal-no-numeral : (w : List ℕ) → T (isDecimal w) → isNumeral w ≡ false
-decimal-no-numeral w h = go (isNumeral w) refl
-  where
-    go : (v : Bool) → isNumeral w ≡ v → v ≡ false
-    go false e = refl
-    go true e =
-        absurd (subst (λ (l : List ℕ). T (run digit l)) (no-point w (numeral-digits w (true-holds e))) (and-right (isNumeral (beforePoint w)) _ h))
+decimal-no-numeral w h =
+    let k : T (run digit (behindPoint w)) = and-right (isNumeral (beforePoint w)) _ h in
+    never (isNumeral w) (λ t. subst (λ (l : List ℕ). T (run digit l)) (no-point w (numeral-digits w t)) k)
 
 second : (x : ℕ) (p : ℕ → Bool) (a b : ℕ) (w : List ℕ) → T (isRadix x p (a ∷ b ∷ w)) → b ≡ x
 second x p a b w h = eqb→eq b x (and-right (eqb a 35) _ (and-left (eqb a 35 && eqb b x) _ h))
@@ -112,15 +104,9 @@ second x p a b w h = eqb→eq b x (and-right (eqb a 35) _ (and-left (eqb a 35 &&
 binary-no-hexadecimal : (w : List ℕ) → T (isOf binary w) → isOf hexadecimal w ≡ false
 binary-no-hexadecimal [] h = refl
 binary-no-hexadecimal (a ∷ []) h = refl
-binary-no-hexadecimal (a ∷ b ∷ w) h = go (isOf hexadecimal (a ∷ b ∷ w)) refl
-  where
-    go : (v : Bool) → isOf hexadecimal (a ∷ b ∷ w) ≡ v → v ≡ false
-    go false e = refl
-    go true e =
-        let x : b ≡ 120 = second 120 hexDigit a b w (true-holds e) in
-        let y : b ≡ 98 = second 98 (between "0" "1") a b w h in
-        let z : ⊥ = omega arith in
-        absurd z
+binary-no-hexadecimal (a ∷ b ∷ w) h =
+    let y : b ≡ 98 = second 98 (between "0" "1") a b w h in
+    never (isOf hexadecimal (a ∷ b ∷ w)) (λ t. let x : b ≡ 120 = second 120 hexDigit a b w t in omega arith)
 
 -- THE KIND OF A WORD
 

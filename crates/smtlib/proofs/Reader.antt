@@ -4,7 +4,6 @@ use mathlib.Core.Bool.{Bool, true, false, cond}
 use mathlib.Core.Option.{Option, none, some, Option·none-ne-some}
 use mathlib.Core.List.{List, [], _∷_}
 use Prim.Native.Nat.{ℕ}
-use lib.Dec.{T}
 use Rattle.smtlib.specs.Read.{Item, opening, closing, token, Lexes, Sexps, end, atom, list, items, Command, script, Reading}
 use Rattle.smtlib.specs.Compose.{append}
 use Rattle.smtlib.proofs.Bools.{true-holds}

@@ -1,5 +1,5 @@
 -- What the code's functions are proved with: a law for each way through, over plain variables.
-use mathlib.Core.Path.{_≡_, refl, sym, ap, _∙_, subst, subst⁻¹}
+use mathlib.Core.Path.{_≡_, refl, sym, ap, _∙_, subst}
 use mathlib.Core.Bool.{Bool, true, false, not, cond, _&&_, _||_, and-true, and-false, and-assoc}
 use mathlib.Core.Logic.{_⊎_, inl, inr}
 use mathlib.Core.List.{List, [], _∷_, _++_, append-assoc, append-nil}
@@ -14,8 +14,8 @@ use lib.Seq.{drop-cons, drop-drop, take-at, drop-at, take-suc, take-length}
 use borrow.Author.Tests.{eq-eqb, ne-eqb, eqb-false}
 use Rattle.smtlib.specs.Lexicon.{bytes, all, any, same, among, reservedWords, isReserved, digit, letter, symbolByte, isSimple, isSymbol}
 use Rattle.smtlib.specs.Table.{values, symbolPlace, symbolPlaces, rowOf, rowsTo, startOf, pieces, oneOf, inRow}
-use Rattle.smtlib.proofs.Bools.{is-true, is-false, true-holds, and-left, and-right, either, any-all, same→eq, among-each}
-use Rattle.smtlib.proofs.Entries.{below, at-below, value-at}
+use Rattle.smtlib.proofs.Bools.{never, true-holds, and-left, and-right, either, any-all, same→eq, among-each}
+use Rattle.smtlib.proofs.Entries.{at-below, value-at}
 
 -- same_bytes
 
@@ -26,11 +26,7 @@ pub record Comparing (a b : List ℕ) (i : ℕ) : Type 0 where
   pub rest : same (drop i a) (drop i b) ≡ same a b
 
 pub same-lengths : (a b : List ℕ) → (length a ≡ length b → ⊥) → false ≡ same a b
-same-lengths a b n = go (same a b) refl
-  where
-    go : (v : Bool) → same a b ≡ v → false ≡ v
-    go false e = refl
-    go true e = absurd (n (ap length (same→eq a b (true-holds e))))
+same-lengths a b n = sym (never (same a b) (λ t. n (ap length (same→eq a b t))))
 
 same-at : (a b : List ℕ) (i : ℕ) → Comparing a b i → i < length a
     → same a b ≡ eqb (getD a i 0) (getD b i 0) && same (drop (i + 1) a) (drop (i + 1) b)
@@ -160,14 +156,10 @@ reserved-row w start end v h a b e =
 
 pub reserved-long : (w : List ℕ) → 21 < length w → false ≡ isReserved w
 unfolding reservedWords
-reserved-long w h = go (isReserved w) refl
-  where
-    go : (v : Bool) → isReserved w ≡ v → false ≡ v
-    go false e = refl
-    go true e =
-        let k : length w ≤ 21 = leb→le (length w) 21 (among-each (λ x. leb (length x) 21) w reservedWords (true-holds e) tt) in
-        let z : ⊥ = omega arith in
-        absurd z
+reserved-long w h =
+    sym (never (isReserved w) (λ t.
+    let k : length w ≤ 21 = leb→le (length w) 21 (among-each (λ x. leb (length x) 21) w reservedWords t tt) in
+    omega arith))
 
 -- all_symbol_bytes
 
@@ -209,7 +201,7 @@ all-end w left s h =
 -- is_symbol_byte
 
 pub byte-high : (b : ℕ) → 127 < b → false ≡ symbolByte b
-byte-high b h = go (symbolByte b) refl
+byte-high b h = sym (never (symbolByte b) (λ t. some-mark (either (letter b) _ t)))
   where
     small : (a z : ℕ) → z ≤ 127 → T (leb a b && leb b z) → ⊥
     small a z k t = let l : b ≤ z = leb→le b z (and-right (leb a b) (leb b z) t) in omega arith
@@ -222,13 +214,9 @@ byte-high b h = go (symbolByte b) refl
     letters (inl t) = small 65 90 (omega arith) t
     letters (inr t) = small 97 122 (omega arith) t
 
-    none : T (letter b) ⊎ T (digit b || any (eqb b) (bytes "~!@$%^&*_-+=<>.?/")) → ⊥
-    none (inl t) = letters (either (leb 65 b && leb b 90) _ t)
-    none (inr t) = marks (either (digit b) _ t)
-
-    go : (v : Bool) → symbolByte b ≡ v → false ≡ v
-    go false e = refl
-    go true e = absurd (none (either (letter b) _ (true-holds e)))
+    some-mark : T (letter b) ⊎ T (digit b || any (eqb b) (bytes "~!@$%^&*_-+=<>.?/")) → ⊥
+    some-mark (inl t) = letters (either (leb 65 b && leb b 90) _ t)
+    some-mark (inr t) = marks (either (digit b) _ t)
 
 -- a place that holds a space is no symbol byte's
 pub byte-low : (places : List ℕ) (b : ℕ) → places ≡ symbolPlaces → b ≤ 127 → not (eqb (getD places b 0) 32) ≡ symbolByte b

@@ -1,10 +1,9 @@
 -- What a part of a text spells, whatever stands behind it: how a writer's text is taken apart.
-use mathlib.Core.Bool.{Bool, true, false, not, cond}
+use mathlib.Core.Bool.{Bool, not, cond}
 use mathlib.Core.List.{List, [], _∷_, _++_}
 use Prim.Native.Nat.{ℕ, zero, suc, _+_, _/_, _%_}
 use Prim.Native.Char.{code}
-use lib.Dec.{T, ltb, eqb}
-use Rattle.smtlib.specs.Lexicon.{bytes}
+use lib.Dec.{ltb, eqb}
 use Rattle.smtlib.specs.Read.{Item, Parted, Lexes, Sexps, end, atom, list, items, Command, Reading}
 
 -- One row of S-expressions behind another.

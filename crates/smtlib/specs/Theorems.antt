@@ -5,7 +5,7 @@ use Prim.Native.Nat.{ℕ, suc, _^_, _≤_, _<_}
 use Prim.Native.Char.{code}
 use lib.Dec.{T}
 use lib.ListN.{length, take}
-use Rattle.smtlib.specs.Lexicon.{bytes, visible, all, numeral}
+use Rattle.smtlib.specs.Lexicon.{visible, all, numeral}
 use Rattle.smtlib.specs.Read.{Token, word, string, Spells, Sexps, end, atom, list, Command, Reading}
 use Rattle.smtlib.specs.Cut.{outside, closed}
 use Rattle.smtlib.specs.Compose.{append, Says, Follows, Writes, paren, quotes, line, noQuote, digits, decimal}

@@ -1,3 +1,4 @@
+-- `all_symbol_bytes` meets its contract: the bytes from the place `left` on are symbol bytes (`Passing`).
 use mathlib.Core.Path.{refl}
 use Rattle.smtlib.specs.Table.{symbolPlaces}
 use Rattle.smtlib.proofs.Words.{Passing, all-start, all-step, all-stop, all-end}

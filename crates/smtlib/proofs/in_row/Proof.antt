@@ -1,3 +1,4 @@
+-- `in_row` meets its contract: the word is none of the pieces before `at` (`Searching`).
 use Prim.Native.Nat.{_-_}
 use lib.ListN.{length}
 use Rattle.smtlib.proofs.Words.{Searching, search-start, search-found, search-step, search-end}

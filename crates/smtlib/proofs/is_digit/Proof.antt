@@ -1,3 +1,4 @@
+-- `is_digit` meets its contract, by its two tests.
 use borrow.Author.Tests.{lt-leb, le-leb}
 use Rattle.smtlib.proofs.is_digit.Statement.{statement}
 use Rattle.smtlib.proofs.is_digit.Tie as tie

@@ -1,4 +1,4 @@
-use native.Mathlib.Omega.{arith}
+-- `is_reserved` meets its contract: the row of the word's length stands where the table of starts says, and is searched whole.
 use Rattle.smtlib.proofs.Words.{row-within, reserved-row, reserved-long}
 use Rattle.smtlib.specs.Table.{rowsTo}
 use borrow.Author.Needs.{needs}

@@ -1,3 +1,4 @@
+-- `is_simple` meets its contract: a law for each way out.
 use Rattle.smtlib.proofs.Words.{simple-empty, simple-digit, simple-rest}
 use borrow.Author.Needs.{needs}
 use Rattle.smtlib.proofs.is_simple.Statement.{statement}

@@ -1,3 +1,4 @@
+-- `is_symbol` meets its contract: a law for each way out.
 use Rattle.smtlib.proofs.Words.{symbol-simple, symbol-other}
 use borrow.Author.Needs.{needs}
 use Rattle.smtlib.proofs.is_symbol.Statement.{statement}

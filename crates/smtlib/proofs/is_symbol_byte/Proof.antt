@@ -1,3 +1,4 @@
+-- `is_symbol_byte` meets its contract: a place below 128 holds a space exactly if its byte is no symbol byte.
 use Rattle.smtlib.proofs.Words.{byte-high, byte-low}
 use borrow.Author.Needs.{needs}
 use Rattle.smtlib.proofs.is_symbol_byte.Statement.{statement}

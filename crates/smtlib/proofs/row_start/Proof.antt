@@ -1,3 +1,4 @@
+-- `row_start` meets its contract: its table lists the values of `startOf`.
 use native.Mathlib.Omega.{arith}
 use Rattle.smtlib.specs.Table.{startOf}
 use Rattle.smtlib.proofs.Words.{starts}

@@ -1,9 +1,7 @@
-use Prim.Native.Nat.{_≤_, _-_}
-use mathlib.Core.Path.{_≡_, refl}
-use lib.ListN.{length, drop}
-use native.Mathlib.Omega.{arith}
+-- `same_bytes` meets its contract: the bytes before i are the same (`Comparing`).
+use Prim.Native.Nat.{_-_}
+use lib.ListN.{length}
 use borrow.Author.Needs.{needs}
-use Rattle.smtlib.specs.Lexicon.{same}
 use Rattle.smtlib.proofs.Words.{Comparing, same-lengths, same-start, same-step, same-stop, same-end}
 use Rattle.smtlib.proofs.same_bytes.Statement.{statement}
 use Rattle.smtlib.proofs.same_bytes.Tie as tie

@@ -1,6 +1,7 @@
+-- `copied` keeps to its array, whose length the loop does not change.
 use Prim.Native.Nat.{_≤_, _<_, _-_}
 use mathlib.Core.Path.{_≡_}
-use lib.ListN.{length, length-set}
+use lib.ListN.{length}
 use borrow.Author.Needs.{needs}
 use Rattle.symbols.proofs.copied.Statement.{statement}
 use Rattle.symbols.proofs.copied.Tie as tie

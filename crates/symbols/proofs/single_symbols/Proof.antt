@@ -1,3 +1,4 @@
+-- `single_symbols` ends and does not overflow: it finds at most as many bytes as it tries.
 use Prim.Native.Nat.{_≤_, _-_}
 use native.Mathlib.Omega.{arith}
 use mathlib.Core.Logic.{⊎-elim}

@@ -1,3 +1,4 @@
+-- `try_lines` keeps to its slice: a line begins at or before the place that is looked at.
 use Prim.Native.Nat.{_≤_, _-_}
 use lib.ListN.{length}
 use native.Mathlib.Omega.{arith}

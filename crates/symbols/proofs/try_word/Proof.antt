@@ -1,3 +1,4 @@
+-- `try_word` lends parts that lie within the arrays that they are parts of.
 use native.Mathlib.Omega.{arith}
 use lib.ListN.{length-take}
 use borrow.Author.Needs.{needs}
