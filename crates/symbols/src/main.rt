@@ -27,7 +27,7 @@ fn try_lines(text: &[u8]) {
     }
 }
 
-// One line: the word, and the four answers.
+// One line: the word and its four answers.
 fn try_word(word: &[u8]) {
     let n = word.len();
     if n == 0 {

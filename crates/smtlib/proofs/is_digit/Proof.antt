@@ -1,13 +1,13 @@
 -- `is_digit` meets its contract, by its two tests.
-use borrow.Author.Tests.{lt-leb, le-leb}
+use Rattle.smtlib.proofs.Words.{digit-below, digit-from}
 use Rattle.smtlib.proofs.is_digit.Statement.{statement}
 use Rattle.smtlib.proofs.is_digit.Tie as tie
 
 returns : tie.Need-returns
-returns c = simp (lt-leb _ _ (c .if1 .taken))
+returns c = search digit-below
 
 returns-2 : tie.Need-returns-2
-returns-2 c = simp (le-leb _ _ (c .if1 .left))
+returns-2 c = search digit-from
 
 pub is-digit-spec : {M : Type 1} → statement M
 is-digit-spec = tie.close (tie.spec returns returns-2)
