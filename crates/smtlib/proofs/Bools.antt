@@ -1,6 +1,6 @@
 -- Tests that compute, as facts.
 use mathlib.Core.Path.{_≡_, refl, subst, subst⁻¹}
-use mathlib.Core.Bool.{Bool, true, false, not, _&&_, _||_}
+use mathlib.Core.Bool.{Bool, true, false, not, cond, _&&_, _||_}
 use mathlib.Core.Logic.{_⊎_, inl, inr}
 use mathlib.Core.List.{List, [], _∷_, _++_}
 use Prim.Native.String.{String}
@@ -26,6 +26,11 @@ true-holds e = subst⁻¹ T e tt
 
 pub false-fails : {v : Bool} → v ≡ false → T (not v)
 false-fails e = subst⁻¹ (λ (v : Bool). T (not v)) e tt
+
+-- what holds of both values that a test picks from
+pub choice : {A : Type 0} (P : A → Type 0) (v : Bool) (x y : A) → (T v → P x) → P y → P (cond v x y)
+choice P true x y f g = f tt
+choice P false x y f g = g
 
 pub and-left : (a b : Bool) → T (a && b) → T a
 and-left true b t = tt

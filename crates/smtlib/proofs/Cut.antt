@@ -17,17 +17,15 @@ use Rattle.smtlib.specs.Theorems.{Unique, Prefix, Whole, Cuts}
 use Rattle.smtlib.proofs.Bools.{is-true, is-false, true-holds, all-head, all-tail}
 use Rattle.smtlib.proofs.Plain.{plainByte, is-plain, kind-plain}
 use Rattle.smtlib.proofs.Lexer.{quoted-no-bar, line-feed-blank, unique-items}
-use Rattle.smtlib.proofs.Nest.{Level, lev, down, leave, up, pasts, Nested, script-injective, pasts-script, nested-script, First, cut-script}
+use Rattle.smtlib.proofs.Nest.{Level, lev, level, down, up, pasts, Nested, script-injective, pasts-script, nested-script, First, cut-script}
 
 -- THE SCAN'S LEVEL
 
 abbrev on : Mode → Level → Scan
 on m l = at m (l .depth) (l .commands)
 
-abbrev level : Scan → Level
-level s = lev (depth s) (commands s)
-
-meet-right : (d n : ℕ) → meet rightParen d n ≡ on inCode (leave d n)
+-- behind a closing parenthesis nothing else is open
+meet-right : (d n : ℕ) → meet rightParen d n ≡ on inCode (up (lev d n))
 meet-right zero n = refl
 meet-right (suc zero) n = refl
 meet-right (suc (suc d)) n = refl

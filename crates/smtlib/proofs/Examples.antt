@@ -6,6 +6,7 @@ use Prim.Native.Nat.{ℕ}
 use Prim.Native.Char.{code}
 use Prim.Native.String.{String}
 use lib.Dec.{T, lit<}
+use lib.ListN.{length}
 use Rattle.smtlib.specs.Lexicon.{bytes, class, Kind, isSymbol, reservedWords, numeral, hexadecimal, binary, symbol, keyword, reserved}
 use Rattle.smtlib.specs.Lexicon.{decimal as decimalKind}
 use Rattle.smtlib.specs.Read.{word, string, quoted, as-word, Sexps, end, atom, list, Command, Reading}
@@ -60,6 +61,10 @@ case-s-read = read-sound case-s case-s-commands refl
 
 case-s-cuts : ReadAtCuts case-s case-s-commands
 case-s-cuts = cuts case-s case-s-commands case-s-read
+
+case-s-length : length case-s ≡ 214
+unfolding case-s
+case-s-length = refl
 
 -- behind the first command, within the second, and behind the last
 case-s-closed : (closed case-s 16 ≡ 1) × outside case-s 16 × ((outside case-s 20 → ⊥) × (closed case-s 214 ≡ 6) × outside case-s 214)

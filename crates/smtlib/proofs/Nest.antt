@@ -6,6 +6,8 @@ use Prim.Native.Nat.{ℕ, zero, suc, _+_, _≤_, _<_}
 use native.Mathlib.Omega.{arith}
 use lib.ListN.{length, take}
 use Rattle.smtlib.specs.Read.{Item, opening, closing, token, Sexps, end, atom, list, items, Command, script}
+use Rattle.smtlib.specs.Lexicon.{leftParen, rightParen}
+use Rattle.smtlib.specs.Cut.{Scan, meet, depth, commands}
 use Rattle.smtlib.proofs.Bools.{clash}
 
 -- THE ITEMS SAY WHAT THE COMMANDS ARE
@@ -49,17 +51,15 @@ pub record Level : Type 0 where
 abbrev pub lev : ℕ → ℕ → Level
 lev d n = record { depth = d; commands = n }
 
--- the level behind a parenthesis
-abbrev pub down : Level → Level
-down l = lev (suc (l .depth)) (l .commands)
+-- the level of a scan, and behind a parenthesis as the scan counts it
+abbrev pub level : Scan → Level
+level s = lev (depth s) (commands s)
 
-abbrev pub leave : ℕ → ℕ → Level
-leave zero n = lev zero n
-leave (suc zero) n = lev zero (suc n)
-leave (suc (suc d)) n = lev (suc d) n
+abbrev pub down : Level → Level
+down l = level (meet leftParen (l .depth) (l .commands))
 
 abbrev pub up : Level → Level
-up l = leave (l .depth) (l .commands)
+up l = level (meet rightParen (l .depth) (l .commands))
 
 -- the level behind an item, and behind several
 abbrev pub past : Item → Level → Level

@@ -10,7 +10,7 @@ use Rattle.smtlib.specs.Lexicon.{all, digit, hexDigit, between, symbolBy
 use Rattle.smtlib.specs.Lexicon.{Kind, numeral, decimal, hexadecimal, binary, reserved, symbol, keyword, isOf}
 use borrow.Author.Tests.{eq-eqb}
 use Rattle.smtlib.proofs.Plain.{numeral-digits}
-use Rattle.smtlib.proofs.Bools.{is-true, is-false, never, true-holds, and-left, and-right, all-head, all-tail, among-each}
+use Rattle.smtlib.proofs.Bools.{choice, is-true, is-false, never, true-holds, and-left, and-right, all-head, all-tail, among-each}
 
 -- WHAT THE FIRST BYTE SAYS
 
@@ -145,19 +145,14 @@ abbrev pub kind-or : Kind → Option Kind → Kind
 kind-or j none = j
 kind-or j (some k) = k
 
-first-of : (v : Bool) (k j : Kind) (o : Option Kind) (P : Kind → Type 0) → (T v → P k) → (T (isSome o) → P (kind-or j o))
-    → T (isSome (cond v (some k) o)) → P (kind-or j (cond v (some k) o))
-first-of true k j o P f g h = f tt
-first-of false k j o P f g h = g h
-
 pub of-kind : (w : List ℕ) → T (isSome (kindOf w)) → T (isOf (kind-or symbol (kindOf w)) w)
 unfolding kindOf
 of-kind w =
-    let P : Kind → Type 0 = λ k. T (isOf k w) in
-    first-of (isOf numeral w) numeral symbol _ P (λ h. h) (
-    first-of (isOf decimal w) decimal symbol _ P (λ h. h) (
-    first-of (isOf hexadecimal w) hexadecimal symbol _ P (λ h. h) (
-    first-of (isOf binary w) binary symbol _ P (λ h. h) (
-    first-of (isOf reserved w) reserved symbol _ P (λ h. h) (
-    first-of (isOf symbol w) symbol symbol _ P (λ h. h) (
-    first-of (isOf keyword w) keyword symbol _ P (λ h. h) (λ h. absurd h)))))))
+    let P : Option Kind → Type 0 = λ o. T (isSome o) → T (isOf (kind-or symbol o) w) in
+    choice P (isOf numeral w) (some numeral) _ (λ h t. h) (
+    choice P (isOf decimal w) (some decimal) _ (λ h t. h) (
+    choice P (isOf hexadecimal w) (some hexadecimal) _ (λ h t. h) (
+    choice P (isOf binary w) (some binary) _ (λ h t. h) (
+    choice P (isOf reserved w) (some reserved) _ (λ h t. h) (
+    choice P (isOf symbol w) (some symbol) _ (λ h t. h) (
+    choice P (isOf keyword w) (some keyword) none (λ h t. h) (λ t. absurd t)))))))

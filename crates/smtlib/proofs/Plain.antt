@@ -1,13 +1,13 @@
 -- What the class of a byte says of it, and that a word has plain bytes only.
 use mathlib.Core.Path.{_≡_, refl, subst, subst⁻¹}
-use mathlib.Core.Bool.{Bool, true, false, not, cond, _&&_, _||_}
+use mathlib.Core.Bool.{Bool, true, false, not, _&&_, _||_}
 use mathlib.Core.Logic.{_⊎_, inl, inr}
 use mathlib.Core.List.{List, [], _∷_}
 use Prim.Native.Nat.{ℕ}
 use lib.Dec.{T, eqb, eqb→eq, T-not}
 use Rattle.smtlib.specs.Lexicon.{bytes, Class, blank, semicolon, leftParen, rightParen, quote, bar, plain, class, all, any, run}
 use Rattle.smtlib.specs.Lexicon.{between, digit, hexDigit, symbolByte, isNumeral, beforePoint, behindPoint, isDecimal, isRadix, isReserved, reservedWords, isSimple, isSymbol, isKeyword, Kind, numeral, decimal, hexadecimal, binary, reserved, symbol, keyword, isOf}
-use Rattle.smtlib.proofs.Bools.{true-holds, and-left, and-right, both, either, all-head, all-tail, all-map, any-all, among-each}
+use Rattle.smtlib.proofs.Bools.{choice, true-holds, and-left, and-right, both, either, all-head, all-tail, all-map, any-all, among-each}
 
 -- the bytes of a class
 abbrev pub Is : Class → ℕ → Type 0
@@ -18,10 +18,6 @@ Is rightParen b = b ≡ 41
 Is quote b = b ≡ 34
 Is bar b = b ≡ 124
 Is plain b = Unit
-
-choice : (P : Class → Type 0) (v : Bool) (x y : Class) → (T v → P x) → P y → P (cond v x y)
-choice P true x y f g = f tt
-choice P false x y f g = g
 
 either-listed : (a b : Bool) → T (a || b) → T (a || (b || false))
 either-listed true b t = tt

@@ -135,8 +135,8 @@ unfolding row-placed startOf
 rows-placed = at-below 22 row-placed tt
 
 -- row_start's table lists the starts
-pub starts : (n : ℕ) → n < 23 → (getD (values startOf 0 23) n 0 ≡ startOf n) × (startOf n ≤ 430)
-starts n h = (value-at startOf 23 n h, start-within n h)
+pub starts : (n : ℕ) → n < 23 → getD (values startOf 0 23) n 0 ≡ startOf n
+starts n h = value-at startOf 23 n h
 
 -- what the two calls of row_start give
 pub row-within : (n start end : ℕ) → n ≤ 21 → start ≡ startOf n → end ≡ startOf (n + 1) → (start ≤ end) × (end ≤ 430)

@@ -44,6 +44,7 @@ scan s (b ∷ t) = scan (step s b) t
 abbrev pub scanned : List ℕ → ℕ → Scan
 scanned text k = scan (at inCode zero zero) (take k text)
 
+-- The parentheses that are open there, and the commands that have closed.
 abbrev pub depth : Scan → ℕ
 depth (at m d n) = d
 

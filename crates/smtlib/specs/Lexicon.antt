@@ -55,12 +55,15 @@ class b =
 abbrev pub between : Char → Char → ℕ → Bool
 between a z b = leb (code a) b && leb b (code z)
 
+-- `0` to `9`
 abbrev pub digit : ℕ → Bool
 digit = between "0" "9"
 
+-- `A` to `Z` and `a` to `z`
 abbrev pub letter : ℕ → Bool
 letter b = between "A" "Z" b || between "a" "z" b
 
+-- a digit, or a letter up to `f` in either case
 abbrev pub hexDigit : ℕ → Bool
 hexDigit b = digit b || (between "A" "F" b || between "a" "f" b)
 
@@ -115,6 +118,7 @@ reservedWords =
     ∷ "get-unsat-core" ∷ "get-value" ∷ "pop" ∷ "push" ∷ "reset" ∷ "reset-assertions" ∷ "set-info" ∷ "set-logic"
     ∷ "set-option" ∷ []
 
+-- one of them
 abbrev pub isReserved : List ℕ → Bool
 isReserved w = among w reservedWords
 

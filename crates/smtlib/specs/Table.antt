@@ -42,6 +42,7 @@ pieces n k w [] = []
 pieces n zero w (b ∷ r) = w ∷ pieces n n [] r
 pieces n (suc k) w (b ∷ r) = pieces n k (w ++ (b ∷ [])) r
 
+-- A word is one of the words listed.
 abbrev pub oneOf : List ℕ → List (List ℕ) → Bool
 oneOf w [] = false
 oneOf w (v ∷ vs) = same w v || oneOf w vs

@@ -91,7 +91,13 @@ fn row_start(n: usize) -> usize
     requires { ⌜ n < 23 ⌝ }
     ensures { λ r. ⌜ r ≡ startOf n ⌝ }
 {
-    STARTS[n] as usize
+    widened(STARTS[n])
+}
+
+fn widened(x: u16) -> usize
+    ensures { λ r. ⌜ r ≡ x ⌝ }
+{
+    x as usize
 }
 
 // Whether word is one of the words of a row, which are as long as it is and have one byte behind each.

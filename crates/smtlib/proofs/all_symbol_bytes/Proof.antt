@@ -2,6 +2,7 @@
 use mathlib.Core.Path.{refl}
 use Rattle.smtlib.specs.Table.{symbolPlaces}
 use Rattle.smtlib.proofs.Words.{Passing, all-start, all-step, all-stop, all-end}
+use native.Mathlib.Omega.{arith}
 use borrow.Author.Needs.{needs}
 use Rattle.smtlib.proofs.all_symbol_bytes.Statement.{statement}
 use Rattle.smtlib.proofs.all_symbol_bytes.Tie as tie
@@ -29,10 +30,10 @@ loop-less : tie.Need-loop-less Inv-loop μ-loop
 loop-less c = search needs
 
 loop-again : tie.Need-loop-again Inv-loop μ-loop
-loop-again c = search all-step
+loop-again c = all-step _ _ _ (c .before .before .before .before .before .loop .inv) (omega arith) (c .before .is-symbol-byte .ensures) (c .if1 .taken)
 
 returns : tie.Need-returns Inv-loop μ-loop
-returns c = search all-stop
+returns c = all-stop _ _ _ (c .before .before .before .before .before .loop .inv) (omega arith) (c .before .is-symbol-byte .ensures) (c .if1 .left)
 
 returns-2 : tie.Need-returns-2 Inv-loop μ-loop
 returns-2 c = search all-end

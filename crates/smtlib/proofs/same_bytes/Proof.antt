@@ -1,6 +1,8 @@
 -- `same_bytes` meets its contract: the bytes before i are the same (`Comparing`).
 use Prim.Native.Nat.{_-_}
 use lib.ListN.{length}
+use denote.Ref.{now}
+use native.Mathlib.Omega.{arith}
 use borrow.Author.Needs.{needs}
 use Rattle.smtlib.proofs.Words.{Comparing, same-lengths, same-start, same-step, same-stop, same-end}
 use Rattle.smtlib.proofs.same_bytes.Statement.{statement}
@@ -13,7 +15,7 @@ abbrev μ-loop : tie.MeasureT-loop
 μ-loop a b i₀ i = length a - i
 
 returns : tie.Need-returns Inv-loop μ-loop
-returns c = search same-lengths
+returns c = same-lengths (now (c .before .args .a)) (now (c .before .args .b)) (λ e. omega arith)
 
 loop-holds : tie.Need-loop-holds Inv-loop μ-loop
 loop-holds c = search same-start
