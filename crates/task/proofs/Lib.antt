@@ -1,0 +1,5 @@
+pub mod Reading
+pub mod Numbers
+pub mod Covering
+pub mod Pieces
+pub mod Judging

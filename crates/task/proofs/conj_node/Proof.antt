@@ -1,0 +1,26 @@
+-- conj_node gives the count, or refuses.
+use Rattle.task.specs.Node.{ConstraintForm, constraintOf}
+use borrow.Author.Needs.{needs}
+use Rattle.task.proofs.conj_node.Statement.{statement}
+use Rattle.task.proofs.conj_node.Tie as tie
+
+number-at-requires : tie.Need-number-at-requires
+number-at-requires c κs = search needs
+
+enum-known-number : tie.Need-enum-known-number
+enum-known-number c = search needs
+
+enum-told : tie.Need-enum-told
+enum-told c = search needs
+
+returns : tie.Need-returns
+unfolding ConstraintForm constraintOf
+returns c = λ l constraint. rw (c .before .before .number-at .ensures, c .enum-told .given .1)
+
+returns-2 : tie.Need-returns-2
+unfolding ConstraintForm constraintOf
+returns-2 c = λ l constraint. rw (c .before .before .before .number-at .ensures, c .before .number .given .1)
+
+pub conj-node-spec : {M : Type 1} → statement M
+conj-node-spec =
+    tie.close (tie.spec number-at-requires enum-known-number enum-told returns returns-2)

@@ -1,0 +1,50 @@
+-- read_constraint_node gives the node, or refuses.
+use mathlib.Core.Path.{_∙_}
+use Rattle.task.specs.Decode.{constraintForms}
+use Rattle.task.specs.Node.{ConstraintAt, ConstraintForm, constraintOf}
+use Rattle.task.proofs.Reading.{coded-short, coded-at, coded-beyond, beyond}
+use borrow.Author.Needs.{needs}
+use Rattle.task.proofs.read_constraint_node.Statement.{statement}
+use Rattle.task.proofs.read_constraint_node.Tie as tie
+
+returns : tie.Need-returns
+unfolding ConstraintAt ConstraintForm constraintOf
+returns c = λ l constraint. coded-short (constraintForms l constraint) _ _ (c .if1 .taken)
+
+shared-slice-read-code : tie.Need-shared-slice-read-code
+shared-slice-read-code c = search needs
+
+add-p : tie.Need-add-p
+add-p c = search needs
+
+conj-node-requires : tie.Need-conj-node-requires
+conj-node-requires c κs = search needs
+
+returns-2 : tie.Need-returns-2
+unfolding ConstraintAt ConstraintForm constraintOf
+returns-2 c = λ l constraint. coded-at (constraintForms l constraint) _ _ 0 (c .before .before .if1 .left) (c .match .keys1)
+
+returns-3 : tie.Need-returns-3
+unfolding ConstraintAt ConstraintForm constraintOf
+returns-3 c = λ l constraint. coded-at (constraintForms l constraint) _ _ 1 (c .before .before .before .if1 .left) (c .before .match .keys2) ∙ c .conj-node .ensures l constraint
+
+returns-4 : tie.Need-returns-4
+unfolding ConstraintAt ConstraintForm constraintOf
+returns-4 c = λ l constraint. coded-at (constraintForms l constraint) _ _ 2 (c .before .before .if1 .left) (c .match .keys3)
+
+returns-5 : tie.Need-returns-5
+unfolding ConstraintAt ConstraintForm constraintOf
+returns-5 c = λ l constraint. coded-beyond (constraintForms l constraint) _ _ (c .before .before .if1 .left) (beyond 3 _ (c .match .rest))
+
+pub read-constraint-node-spec : {M : Type 1} → statement M
+read-constraint-node-spec =
+    tie.close
+    (tie.spec
+    returns
+    shared-slice-read-code
+    add-p
+    conj-node-requires
+    returns-2
+    returns-3
+    returns-4
+    returns-5)

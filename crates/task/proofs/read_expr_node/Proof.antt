@@ -1,0 +1,196 @@
+-- read_expr_node gives the node, or refuses.
+use mathlib.Core.Path.{_∙_}
+use Rattle.task.specs.Decode.{exprForms}
+use Rattle.task.specs.Node.{ExprAt, ExprForm, exprOf}
+use Rattle.task.proofs.Reading.{coded-short, coded-at, coded-beyond, beyond}
+use borrow.Author.Needs.{needs}
+use Rattle.task.proofs.read_expr_node.Statement.{statement}
+use Rattle.task.proofs.read_expr_node.Tie as tie
+
+returns : tie.Need-returns
+unfolding ExprAt ExprForm exprForms exprOf
+returns c = λ l expr. coded-short (exprForms l expr) _ _ (c .if1 .taken)
+
+shared-slice-read-code : tie.Need-shared-slice-read-code
+shared-slice-read-code c = search needs
+
+add-p : tie.Need-add-p
+add-p c = search needs
+
+numeral-node-requires : tie.Need-numeral-node-requires
+numeral-node-requires c κs = search needs
+
+boolean-node-requires : tie.Need-boolean-node-requires
+boolean-node-requires c κs = search needs
+
+real-node-requires : tie.Need-real-node-requires
+real-node-requires c κs = search needs
+
+string-node-requires : tie.Need-string-node-requires
+string-node-requires c κs = search needs
+
+bit-vec-node-requires : tie.Need-bit-vec-node-requires
+bit-vec-node-requires c κs = search needs
+
+var-node-requires : tie.Need-var-node-requires
+var-node-requires c κs = search needs
+
+binary-op-node-requires : tie.Need-binary-op-node-requires
+binary-op-node-requires c κs = search needs
+
+atom-node-requires : tie.Need-atom-node-requires
+atom-node-requires c κs = search needs
+
+and-node-requires : tie.Need-and-node-requires
+and-node-requires c κs = search needs
+
+or-node-requires : tie.Need-or-node-requires
+or-node-requires c κs = search needs
+
+let-node-requires : tie.Need-let-node-requires
+let-node-requires c κs = search needs
+
+app-node-requires : tie.Need-app-node-requires
+app-node-requires c κs = search needs
+
+thy-func-node-requires : tie.Need-thy-func-node-requires
+thy-func-node-requires c κs = search needs
+
+is-ctor-node-requires : tie.Need-is-ctor-node-requires
+is-ctor-node-requires c κs = search needs
+
+quantifier-node-requires : tie.Need-quantifier-node-requires
+quantifier-node-requires c κs = search needs
+
+returns-2 : tie.Need-returns-2
+unfolding ExprAt ExprForm exprForms exprOf
+returns-2 c = λ l expr. coded-at (exprForms l expr) _ _ 0 (c .before .before .before .if1 .left) (c .before .match .keys1) ∙ c .numeral-node .ensures l expr
+
+returns-3 : tie.Need-returns-3
+unfolding ExprAt ExprForm exprForms exprOf
+returns-3 c = λ l expr. coded-at (exprForms l expr) _ _ 1 (c .before .before .before .if1 .left) (c .before .match .keys2) ∙ c .boolean-node .ensures l expr
+
+returns-4 : tie.Need-returns-4
+unfolding ExprAt ExprForm exprForms exprOf
+returns-4 c = λ l expr. coded-at (exprForms l expr) _ _ 2 (c .before .before .before .if1 .left) (c .before .match .keys3) ∙ c .real-node .ensures l expr
+
+returns-5 : tie.Need-returns-5
+unfolding ExprAt ExprForm exprForms exprOf
+returns-5 c = λ l expr. coded-at (exprForms l expr) _ _ 3 (c .before .before .before .if1 .left) (c .before .match .keys4) ∙ c .string-node .ensures l expr
+
+returns-6 : tie.Need-returns-6
+unfolding ExprAt ExprForm exprForms exprOf
+returns-6 c = λ l expr. coded-at (exprForms l expr) _ _ 4 (c .before .before .before .if1 .left) (c .before .match .keys5) ∙ c .bit-vec-node .ensures l expr
+
+returns-7 : tie.Need-returns-7
+unfolding ExprAt ExprForm exprForms exprOf
+returns-7 c = λ l expr. coded-at (exprForms l expr) _ _ 5 (c .before .before .before .if1 .left) (c .before .match .keys6) ∙ c .var-node .ensures l expr
+
+returns-8 : tie.Need-returns-8
+unfolding ExprAt ExprForm exprForms exprOf
+returns-8 c = λ l expr. coded-at (exprForms l expr) _ _ 6 (c .before .before .if1 .left) (c .match .keys7)
+
+returns-9 : tie.Need-returns-9
+unfolding ExprAt ExprForm exprForms exprOf
+returns-9 c = λ l expr. coded-at (exprForms l expr) _ _ 7 (c .before .before .if1 .left) (c .match .keys8)
+
+returns-10 : tie.Need-returns-10
+unfolding ExprAt ExprForm exprForms exprOf
+returns-10 c = λ l expr. coded-at (exprForms l expr) _ _ 8 (c .before .before .if1 .left) (c .match .keys9)
+
+returns-11 : tie.Need-returns-11
+unfolding ExprAt ExprForm exprForms exprOf
+returns-11 c = λ l expr. coded-at (exprForms l expr) _ _ 9 (c .before .before .before .if1 .left) (c .before .match .keys10) ∙ c .binary-op-node .ensures l expr
+
+returns-12 : tie.Need-returns-12
+unfolding ExprAt ExprForm exprForms exprOf
+returns-12 c = λ l expr. coded-at (exprForms l expr) _ _ 10 (c .before .before .before .if1 .left) (c .before .match .keys11) ∙ c .atom-node .ensures l expr
+
+returns-13 : tie.Need-returns-13
+unfolding ExprAt ExprForm exprForms exprOf
+returns-13 c = λ l expr. coded-at (exprForms l expr) _ _ 11 (c .before .before .if1 .left) (c .match .keys12)
+
+returns-14 : tie.Need-returns-14
+unfolding ExprAt ExprForm exprForms exprOf
+returns-14 c = λ l expr. coded-at (exprForms l expr) _ _ 12 (c .before .before .if1 .left) (c .match .keys13)
+
+returns-15 : tie.Need-returns-15
+unfolding ExprAt ExprForm exprForms exprOf
+returns-15 c = λ l expr. coded-at (exprForms l expr) _ _ 13 (c .before .before .before .if1 .left) (c .before .match .keys14) ∙ c .and-node .ensures l expr
+
+returns-16 : tie.Need-returns-16
+unfolding ExprAt ExprForm exprForms exprOf
+returns-16 c = λ l expr. coded-at (exprForms l expr) _ _ 14 (c .before .before .before .if1 .left) (c .before .match .keys15) ∙ c .or-node .ensures l expr
+
+returns-17 : tie.Need-returns-17
+unfolding ExprAt ExprForm exprForms exprOf
+returns-17 c = λ l expr. coded-at (exprForms l expr) _ _ 15 (c .before .before .if1 .left) (c .match .keys16)
+
+returns-18 : tie.Need-returns-18
+unfolding ExprAt ExprForm exprForms exprOf
+returns-18 c = λ l expr. coded-at (exprForms l expr) _ _ 16 (c .before .before .before .if1 .left) (c .before .match .keys17) ∙ c .let-node .ensures l expr
+
+returns-19 : tie.Need-returns-19
+unfolding ExprAt ExprForm exprForms exprOf
+returns-19 c = λ l expr. coded-at (exprForms l expr) _ _ 17 (c .before .before .before .if1 .left) (c .before .match .keys18) ∙ c .app-node .ensures l expr
+
+returns-20 : tie.Need-returns-20
+unfolding ExprAt ExprForm exprForms exprOf
+returns-20 c = λ l expr. coded-at (exprForms l expr) _ _ 18 (c .before .before .before .if1 .left) (c .before .match .keys19) ∙ c .thy-func-node .ensures l expr
+
+returns-21 : tie.Need-returns-21
+unfolding ExprAt ExprForm exprForms exprOf
+returns-21 c = λ l expr. coded-at (exprForms l expr) _ _ 19 (c .before .before .before .if1 .left) (c .before .match .keys20) ∙ c .is-ctor-node .ensures l expr
+
+returns-22 : tie.Need-returns-22
+unfolding ExprAt ExprForm exprForms exprOf
+returns-22 c = λ l expr. coded-at (exprForms l expr) _ _ 20 (c .before .before .before .if1 .left) (c .before .match .keys21) ∙ c .quantifier-node .ensures l expr
+
+returns-23 : tie.Need-returns-23
+unfolding ExprAt ExprForm exprForms exprOf
+returns-23 c = λ l expr. coded-beyond (exprForms l expr) _ _ (c .before .before .if1 .left) (beyond 21 _ (c .match .rest))
+
+pub read-expr-node-spec : {M : Type 1} → statement M
+read-expr-node-spec =
+    tie.close
+    (tie.spec
+    returns
+    shared-slice-read-code
+    add-p
+    numeral-node-requires
+    boolean-node-requires
+    real-node-requires
+    string-node-requires
+    bit-vec-node-requires
+    var-node-requires
+    binary-op-node-requires
+    atom-node-requires
+    and-node-requires
+    or-node-requires
+    let-node-requires
+    app-node-requires
+    thy-func-node-requires
+    is-ctor-node-requires
+    quantifier-node-requires
+    returns-2
+    returns-3
+    returns-4
+    returns-5
+    returns-6
+    returns-7
+    returns-8
+    returns-9
+    returns-10
+    returns-11
+    returns-12
+    returns-13
+    returns-14
+    returns-15
+    returns-16
+    returns-17
+    returns-18
+    returns-19
+    returns-20
+    returns-21
+    returns-22
+    returns-23)

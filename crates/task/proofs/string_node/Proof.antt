@@ -1,0 +1,27 @@
+-- string_node gives the text's place, or refuses.
+use Rattle.task.specs.Decode.{exprForms}
+use Rattle.task.specs.Node.{ExprForm, exprOf}
+use borrow.Author.Needs.{needs}
+use Rattle.task.proofs.string_node.Statement.{statement}
+use Rattle.task.proofs.string_node.Tie as tie
+
+read-text-requires : tie.Need-read-text-requires
+read-text-requires c κs = search needs
+
+enum-known-text : tie.Need-enum-known-text
+enum-known-text c = search needs
+
+enum-told : tie.Need-enum-told
+enum-told c = search needs
+
+returns : tie.Need-returns
+unfolding ExprForm exprForms exprOf
+returns c = λ l expr. rw (c .before .before .read-text .ensures, c .enum-told .given .1)
+
+returns-2 : tie.Need-returns-2
+unfolding ExprForm exprForms exprOf
+returns-2 c = λ l expr. rw (c .before .before .before .read-text .ensures, c .before .text .given .1)
+
+pub string-node-spec : {M : Type 1} → statement M
+string-node-spec =
+    tie.close (tie.spec read-text-requires enum-known-text enum-told returns returns-2)

@@ -1,0 +1,22 @@
+-- after puts the two faults together.
+use borrow.Author.Needs.{needs}
+use Rattle.task_check.proofs.after.Statement.{statement}
+use Rattle.task_check.proofs.after.Tie as tie
+
+enum-known-w : tie.Need-enum-known-w
+enum-known-w c = search needs
+
+enum-told : tie.Need-enum-told
+enum-told c = search needs
+
+returns : tie.Need-returns
+returns c = rw (c .enum-told .given .1)
+
+lower-requires : tie.Need-lower-requires
+lower-requires c κs = search needs
+
+returns-2 : tie.Need-returns-2
+returns-2 c = rw (c .before .before .w .given .1, c .lower .ensures)
+
+pub after-spec : {M : Type 1} → statement M
+after-spec = tie.close (tie.spec enum-known-w enum-told returns lower-requires returns-2)
