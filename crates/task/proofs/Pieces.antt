@@ -7,7 +7,7 @@ use native.Mathlib.Omega.{arith}
 use lib.Dec.{eqb}
 use Rattle.task.specs.Ast.{SortCtor, Sort, Sorts, Binder, Constant, Expr, Exprs, Pred, Constraint, Constraints}
 use Rattle.task.specs.Decode.{Decoder, give, refusal, _▹_, raw, number, many, counted, name, text, coded, flags, flag, sortForms, decSort, binder, binOps, binRels, quantifiers, thyFuncs, extends, given, exprForms, decExpr, predForms, decPred, constraintForms, decConstraint, deepest, dataCtor, datatype, body, function, kvar}
-use Rattle.task.specs.Task.{literallyTrue, headsOf, headsIn}
+use Rattle.task.specs.Task.{literallyTrue, predHeads, headsOf, headsIn}
 use Rattle.task.specs.Covers.{Covers, CoversSome, EachCovers}
 use Rattle.task.proofs.Covering.{covers-less, covers-refusal, covers-give, covers-cond, covers-raw, covers-bind, covers-many, covers-number, CoverAll, covers-coded}
 
@@ -171,7 +171,7 @@ module _ (l : ℕ) (constraint : Decoder Constraint) (c : Covers heads-size cons
   members n = covers-many headsIn heads-size Constraints.none Constraints.more constraint (omega arith) (λ a b. omega arith) c n
 
   pred-form : Covers left (decPred l ▹ λ p. give (Constraint.pred p))
-  unfolding headsOf heads-size left
+  unfolding headsOf predHeads heads-size left
   pred-form =
       covers-bind left (λ a. 1) (decPred l) (λ p. give (Constraint.pred p)) (preds l)
       (λ p. covers-give (λ x. left x - 1) (Constraint.pred p) (let h = pred-heads (literallyTrue p) in omega arith))

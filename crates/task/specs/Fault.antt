@@ -200,14 +200,18 @@ abbrev pub isOne : List ℕ → List (List ℕ) → Bool
 isOne x [] = false
 isOne x (y ∷ ys) = same x y || isOne x ys
 
--- 7: a ForAll is not named like one around it. The names around it are given, the outermost first.
+-- 7: a ForAll is not named like one around it
+unfoldable pub shadowFault : List (List ℕ) → List ℕ → Fault
+shadowFault around x = unless (not (isOne x around)) Shadowed
+
+-- The names of the ForAlls around it are given, the outermost first.
 unfoldable mutual
   pub constraintFault : List (List ℕ) → Constraint → Fault
   constraintFault around (Constraint.pred p) = predFault p
   constraintFault around (Constraint.conj cs) = constraintsFault around cs
   constraintFault around (Constraint.forAll x b ps c) =
       lower (nameFault x)
-      (lower (unless (not (isOne x around)) Shadowed)
+      (lower (shadowFault around x)
       (lower (sortFault false b)
       (lower (each predFault ps) (constraintFault (around ++ x ∷ []) c))))
 

@@ -89,9 +89,12 @@ literallyTrue (Pred.kvar k es) = false
 literallyTrue (Pred.expr e) = isTrue e
 
 -- the number of heads that are not literally true
+unfoldable pub predHeads : Pred → ℕ
+predHeads p = cond (literallyTrue p) 0 1
+
 unfoldable mutual
   pub headsOf : Constraint → ℕ
-  headsOf (Constraint.pred p) = cond (literallyTrue p) 0 1
+  headsOf (Constraint.pred p) = predHeads p
   headsOf (Constraint.conj cs) = headsIn cs
   headsOf (Constraint.forAll x b ps c) = headsOf c
 

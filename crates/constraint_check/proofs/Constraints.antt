@@ -1,0 +1,270 @@
+-- What the steps of the constraint walkers add up to, with premises in the form in which the code's steps give them.
+use mathlib.Core.Path.{_≡_, refl, sym, ap, _∙_}
+use mathlib.Core.Bool.{Bool, true, false, cond}
+use mathlib.Core.List.{List, [], _∷_, _++_}
+use Prim.Native.Nat.{ℕ, zero, suc, _+_, _-_, _<_, _≤_}
+use native.Mathlib.Numerals.{sub-one}
+use native.Mathlib.Nat.{add-assoc, zero-add, add-zero}
+use native.Mathlib.Omega.{arith}
+use lib.ListN.{length}
+use Rattle.task.specs.declared.Fault.{Fault}
+use Rattle.task.specs.declared.Fault.the-variants.{Sound}
+use Rattle.task.specs.declared.Number.{Number}
+use Rattle.task.specs.declared.Number.the-variants as number-is
+use Rattle.task.specs.declared.Span.{Span}
+use Rattle.task.specs.declared.SpanRead.{SpanRead}
+use Rattle.task.specs.declared.SpanRead.the-variants as span-is
+use Rattle.task.specs.declared.ConstraintNode.{ConstraintNode}
+use Rattle.task.specs.declared.ConstraintNode.the-variants as constraint-node
+use Rattle.task.specs.Ast.{Sort, Pred, Constraint, Constraints}
+use Rattle.task.specs.Decode.{Res, got, refuse, bind, Decoder, give, _▹_, number, many, counted, name, decSort, decPred, decConstraint}
+use Rattle.task.specs.Fault.{lower, each, nameFault, sortFault, predFault, shadowFault, constraintFault, constraintsFault}
+use Rattle.task.specs.Task.{literallyTrue, predHeads, headsOf, headsIn}
+use Rattle.task.specs.Covers.{Covered, EachCovers}
+use Rattle.task.specs.Node.{numberOf, bytesOf, spanOf, constraintOf, ConstraintAt}
+use Rattle.task.proofs.Judging.{lower-assoc, sound-lower}
+use Rattle.task.proofs.Pieces.{each-covers}
+use Rattle.task_check.specs.declared.Walked.{Walked}
+use Rattle.task_check.specs.declared.Walked.the-variants as walked-is
+use Rattle.task_check.specs.Walk.{walked, after, readTrue}
+use Rattle.task_check.proofs.Rows.{after-sound, Fold, Nexts, next-is, refused-is, row-goes, row-stops, row-ends}
+use Rattle.task_check.proofs.Exprs.{lasts}
+use Rattle.constraint_check.specs.declared.Counted.{Counted}
+use Rattle.constraint_check.specs.Tally.{answer, found, tally}
+use Rattle.constraint_check.specs.Around.{namesOn, forAll}
+use Rattle.constraint_check.proofs.Names.{names-append}
+
+-- an answer part by part
+pub parts : {w w' : Walked} {n n' : ℕ} → w ≡ w' → n ≡ n' → answer w n ≡ answer w' n'
+parts p q = λ i. record { walked = p i; heads = q i }
+
+module _ {A B : Type 0} (one : A → Fault) (whole : B → Fault) (number : B → ℕ) (x : Res A) (k : A → ℕ → Res B) (v : Walked) where
+  -- a piece that is refused, and a piece with what follows it
+  pub stops : (j : ℕ) → v ≡ walked one x → v ≡ walked-is.Refused j → answer v 0 ≡ tally whole number (bind x k)
+  stops j e e' =
+      parts e' refl ∙ sym (ap (λ (y : Res A). tally whole number (bind y k)) (refused-is one x j (sym e' ∙ e)))
+
+  pub goes : (q : ℕ) (g : Fault) (c : Counted) → v ≡ walked one x → v ≡ walked-is.Next q g
+      → ((a : A) → x ≡ got a q → one a ≡ g → c ≡ tally whole number (k a q)) → c ≡ tally whole number (bind x k)
+  goes q g c e e' h =
+      let y = next-is one x q g (sym e' ∙ e) in
+      h (y .value) (y .is) (y .fault) ∙ sym (ap (λ (z : Res A). tally whole number (bind z k)) (y .is))
+
+-- the last piece
+pub ends : {A B : Type 0} (one : A → Fault) (count : A → ℕ) (whole : B → Fault) (number : B → ℕ) (x : Res A) (k : A → B) (f : Fault)
+    → ((a : A) → whole (k a) ≡ lower f (one a)) → ((a : A) → number (k a) ≡ count a)
+    → answer (after f (walked one x)) (found count x) ≡ tally whole number (bind x (λ a q. got (k a) q))
+ends one count whole number (got a q) k f h g = parts (ap (walked-is.Next q) (sym (h a))) (sym (g a))
+ends one count whole number (refuse j) k f h g = refl
+
+-- a head
+module _ (x : Res Pred) (v : Walked) (e : v ≡ walked predFault x) where
+  pub head-refused : (j : ℕ) → v ≡ walked-is.Refused j → answer v 0 ≡ tally predFault predHeads x
+  head-refused j e' = parts e' refl ∙ sym (ap (tally predFault predHeads) (refused-is predFault x j (sym e' ∙ e)))
+
+  module _ (q : ℕ) (f : Fault) (e' : v ≡ walked-is.Next q f) (t : Bool) (u : t ≡ readTrue x) where
+    pub head-true : t ≡ true → answer v 0 ≡ tally predFault predHeads x
+    unfolding predHeads
+    head-true u' =
+        let y = next-is predFault x q f (sym e' ∙ e) in
+        let z : literallyTrue (y .value) ≡ true = sym (ap readTrue (y .is)) ∙ sym u ∙ u' in
+        parts e (sym (ap (found predHeads) (y .is) ∙ ap (λ (b : Bool). cond b 0 1) z))
+
+    pub head-other : t ≡ false → answer v 1 ≡ tally predFault predHeads x
+    unfolding predHeads
+    head-other u' =
+        let y = next-is predFault x q f (sym e' ∙ e) in
+        let z : literallyTrue (y .value) ≡ false = sym (ap readTrue (y .is)) ∙ sym u ∙ u' in
+        parts e (sym (ap (found predHeads) (y .is) ∙ ap (λ (b : Bool). cond b 0 1) z))
+
+-- a constraint by its node
+module _ (l : ℕ) (s : List ℕ) (at : ℕ) (around : List (List ℕ)) where
+  pub constraint-none : l ≡ 0 → answer (walked-is.Refused 3) 0 ≡ tally (constraintFault around) headsOf (decConstraint l s at)
+  unfolding decConstraint
+  constraint-none e = rw e
+
+  module _ (node : ConstraintNode) (z : l ≡ 0 → ⊥) (h : ConstraintAt s at node) where
+    by-node : (n : ConstraintNode) → node ≡ n → decConstraint l s at ≡ constraintOf s (l - 1) (decConstraint (l - 1)) n
+    unfolding decConstraint ConstraintAt
+    by-node n e = go l z
+      where
+        go : (k : ℕ) → (k ≡ 0 → ⊥) → decConstraint k s at ≡ constraintOf s (k - 1) (decConstraint (k - 1)) n
+        go zero z = absurd (z refl)
+        go (suc k) z = rw (sub-one (suc k)) (h k (decConstraint k) ∙ ap (constraintOf s k (decConstraint k)) e)
+
+    pub constraint-pred : (p : ℕ) (c : Counted) → node ≡ constraint-node.Pred p → c ≡ tally predFault predHeads (decPred (l - 1) s p)
+        → c ≡ tally (constraintFault around) headsOf (decConstraint l s at)
+    unfolding constraintOf constraintFault headsOf
+    constraint-pred p c e u =
+        rw (by-node (constraint-node.Pred p) e)
+        (u ∙ parts (sym (after-sound (walked predFault (decPred (l - 1) s p)))) refl
+        ∙ ends predFault predHeads (constraintFault around) headsOf (decPred (l - 1) s p) Constraint.pred Sound (λ a. sym (sound-lower (predFault a))) (λ a. refl))
+
+    pub constraint-conj : (n p : ℕ) (c : Counted) → node ≡ constraint-node.Conj n p
+        → c ≡ tally (constraintsFault around) headsIn (many Constraints.none Constraints.more (decConstraint (l - 1)) n s p)
+        → c ≡ tally (constraintFault around) headsOf (decConstraint l s at)
+    unfolding constraintOf constraintFault constraintsFault headsOf headsIn
+    constraint-conj n p c e u =
+        let x = many Constraints.none Constraints.more (decConstraint (l - 1)) n s p in
+        rw (by-node (constraint-node.Conj n p) e)
+        (u ∙ parts (sym (after-sound (walked (constraintsFault around) x))) refl
+        ∙ ends (constraintsFault around) headsIn (constraintFault around) headsOf x Constraint.conj Sound (λ a. sym (sound-lower (constraintsFault around a))) (λ a. refl))
+
+    pub constraint-for-all : (p : ℕ) (c : Counted) → node ≡ constraint-node.ForAll p → c ≡ tally (constraintFault around) headsOf (forAll (l - 1) s p)
+        → c ≡ tally (constraintFault around) headsOf (decConstraint l s at)
+    unfolding constraintOf
+    constraint-for-all p c e u = rw (by-node (constraint-node.ForAll p) e) u
+
+    pub constraint-refused : (c : Counted) → node ≡ constraint-node.Refused → c ≡ answer (walked-is.Refused 2) 0
+        → c ≡ tally (constraintFault around) headsOf (decConstraint l s at)
+    unfolding constraintOf
+    constraint-refused c e u = rw (by-node constraint-node.Refused e) u
+
+-- a ForAll: refused in its name, its sort, its count or its predicates, or walked to its end
+module _ (l : ℕ) (s offsets : List ℕ) (at : ℕ) (x : SpanRead) (e : name s at ≡ spanOf s x) where
+  pub for-all-unnamed : (c : Counted) → x ≡ span-is.Refused → c ≡ answer (walked-is.Refused 2) 0 → c ≡ tally (constraintFault (namesOn s offsets)) headsOf (forAll l s at)
+  for-all-unnamed c e' u = rw (e, e') u
+
+  module _ (y : Span) (p : ℕ) (e' : x ≡ span-is.At y p) (v : Walked) (u : v ≡ walked (sortFault false) (decSort l s p)) where
+    -- what follows the name
+    behind : Sort → Decoder Constraint
+    behind b = counted [] _∷_ (decPred l) ▹ λ ps. decConstraint l ▹ λ c. give (Constraint.forAll (bytesOf s y) b ps c)
+
+    from-name : (c : Counted) → c ≡ tally (constraintFault (namesOn s offsets)) headsOf ((decSort l ▹ λ b. counted [] _∷_ (decPred l) ▹ λ ps. decConstraint l ▹ λ c. give (Constraint.forAll (bytesOf s y) b ps c)) s p)
+        → c ≡ tally (constraintFault (namesOn s offsets)) headsOf (forAll l s at)
+    from-name c w = rw (e, e') w
+
+    pub for-all-sort-stops : (j : ℕ) → v ≡ walked-is.Refused j → answer v 0 ≡ tally (constraintFault (namesOn s offsets)) headsOf (forAll l s at)
+    unfolding behind
+    for-all-sort-stops j u' = from-name (answer v 0) (stops (sortFault false) (constraintFault (namesOn s offsets)) headsOf (decSort l s p) (λ b q. behind b s q) v j u u')
+
+    module _ (q : ℕ) (f : Fault) (u' : v ≡ walked-is.Next q f) (k : Number) (i : number 2 s q ≡ numberOf k) where
+      from-sort : (c : Counted) → ((b : Sort) → sortFault false b ≡ f → c ≡ tally (constraintFault (namesOn s offsets)) headsOf (behind b s q))
+          → c ≡ tally (constraintFault (namesOn s offsets)) headsOf (forAll l s at)
+      unfolding behind
+      from-sort c h = from-name c (goes (sortFault false) (constraintFault (namesOn s offsets)) headsOf (decSort l s p) (λ b q. behind b s q) v q f c u u' (λ b z g. h b g))
+
+      pub for-all-uncounted : (c : Counted) → k ≡ number-is.Refused → c ≡ answer (walked-is.Refused 2) 0 → c ≡ tally (constraintFault (namesOn s offsets)) headsOf (forAll l s at)
+      unfolding behind
+      for-all-uncounted c i' w = from-sort c (λ b g. rw (i, i') w)
+
+      module _ (n r : ℕ) (i' : k ≡ number-is.Value n r) (v' : Walked) (m : v' ≡ walked (each predFault) (many [] _∷_ (decPred l) n s r)) where
+        under : Sort → List Pred → ℕ → Res Constraint
+        under b ps t = (decConstraint l ▹ λ c. give (Constraint.forAll (bytesOf s y) b ps c)) s t
+
+        from-count : (c : Counted) → ((b : Sort) → sortFault false b ≡ f → c ≡ tally (constraintFault (namesOn s offsets)) headsOf (bind (many [] _∷_ (decPred l) n s r) (under b)))
+            → c ≡ tally (constraintFault (namesOn s offsets)) headsOf (forAll l s at)
+        unfolding behind under
+        from-count c h = from-sort c (λ b g. rw (i, i') (h b g))
+
+        pub for-all-preds-stop : (j : ℕ) → v' ≡ walked-is.Refused j → answer v' 0 ≡ tally (constraintFault (namesOn s offsets)) headsOf (forAll l s at)
+        for-all-preds-stop j m' =
+            from-count (answer v' 0) (λ b g. stops (each predFault) (constraintFault (namesOn s offsets)) headsOf (many [] _∷_ (decPred l) n s r) (under b) v' j m m')
+
+        pub for-all-walks : (t : ℕ) (g : Fault) (offsets' : List ℕ) (c : Counted) (fg fb : Fault) (w : Walked) → v' ≡ walked-is.Next t g
+            → offsets' ≡ offsets ++ at ∷ [] → c ≡ tally (constraintFault (namesOn s offsets')) headsOf (decConstraint l s t)
+            → fg ≡ lower f g → fb ≡ lower (nameFault (bytesOf s y)) (lower (shadowFault (namesOn s offsets) (bytesOf s y)) fg) → w ≡ after fb (c .walked)
+            → answer w (c .heads) ≡ tally (constraintFault (namesOn s offsets)) headsOf (forAll l s at)
+        unfolding under constraintFault headsOf
+        for-all-walks t g offsets' c fg fb w m' o d a a' a'' =
+            let names : namesOn s offsets' ≡ namesOn s offsets ++ bytesOf s y ∷ [] = ap (namesOn s) o ∙ names-append s offsets at (bytesOf s y) p (e ∙ ap (spanOf s) e') in
+            let inner = constraintFault (namesOn s offsets ++ bytesOf s y ∷ []) in
+            let d' : c ≡ tally inner headsOf (decConstraint l s t) = d ∙ ap (λ (xs : List (List ℕ)). tally (constraintFault xs) headsOf (decConstraint l s t)) names in
+            from-count (answer w (c .heads)) (λ b z.
+            goes (each predFault) (constraintFault (namesOn s offsets)) headsOf (many [] _∷_ (decPred l) n s r) (under b) v' t g (answer w (c .heads)) m m' (λ ps k' z'.
+            parts (a'' ∙ ap (λ (q : Counted). after fb (q .walked)) d') (ap (λ (q : Counted). q .heads) d')
+            ∙ ends inner headsOf (constraintFault (namesOn s offsets)) headsOf (decConstraint l s t) (Constraint.forAll (bytesOf s y) b ps) fb
+            (λ c'. rw (a', a, ← z, ← z') (regroup (nameFault (bytesOf s y)) (shadowFault (namesOn s offsets) (bytesOf s y)) (sortFault false b) (each predFault ps) (inner c')))
+            (λ c'. refl)))
+          where
+            regroup : (f1 f2 f3 f4 f5 : Fault) → lower f1 (lower f2 (lower f3 (lower f4 f5))) ≡ lower (lower f1 (lower f2 (lower f3 f4))) f5
+            regroup f1 f2 f3 f4 f5 =
+                sym (lower-assoc f1 (lower f2 (lower f3 f4)) f5 ∙ ap (lower f1) (lower-assoc f2 (lower f3 f4) f5 ∙ ap (lower f2) (lower-assoc f3 f4 f5)))
+
+pub members-fold : (around : List (List ℕ)) → Fold Constraints.none Constraints.more (constraintFault around) (constraintsFault around)
+unfolding constraintFault constraintsFault
+members-fold around = record { none = refl; step = λ c cs. refl }
+
+-- heads counted before those of the members that are left
+abbrev added : ℕ → Res Constraints → ℕ
+added t (got cs p) = t + headsIn cs
+added t (refuse k) = 0
+
+-- the loop: of n members from at on those from p on are left; f is the fault and h the number of heads so far
+module _ (s : List ℕ) (l : ℕ) (around : List (List ℕ)) where
+  pub record Going (n at left p : ℕ) (f : Fault) (h : ℕ) : Type 0 where
+    pub fault : after f (walked (constraintsFault around) (many Constraints.none Constraints.more (decConstraint l) left s p)) ≡ walked (constraintsFault around) (many Constraints.none Constraints.more (decConstraint l) n s at)
+    pub heads : added h (many Constraints.none Constraints.more (decConstraint l) left s p) ≡ found headsIn (many Constraints.none Constraints.more (decConstraint l) n s at)
+    pub few : h ≤ p
+
+  pub going-starts : (n at : ℕ) → Going n at n at Sound 0
+  going-starts n at = record { fault = after-sound (walked (constraintsFault around) x); heads = none x; few = omega arith }
+    where
+      x : Res Constraints
+      x = many Constraints.none Constraints.more (decConstraint l) n s at
+      none : (y : Res Constraints) → added 0 y ≡ found headsIn y
+      none (got cs p) = zero-add (headsIn cs)
+      none (refuse k) = refl
+
+  -- one more member
+  add-member : (h : ℕ) (c : Constraint) (y : Res Constraints) → added h (bind y (λ cs q. got (Constraints.more c cs) q)) ≡ added (h + headsOf c) y
+  unfolding headsOf headsIn
+  add-member h c (got cs q) = sym (add-assoc h (headsOf c) (headsIn cs))
+  add-member h c (refuse k) = refl
+
+  module _ (n at left p : ℕ) (f : Fault) (h : ℕ) (i : Going n at left p f h) where
+    module _ (z : 0 < left) (c : Counted) (e : c ≡ tally (constraintFault around) headsOf (decConstraint l s p)) (v : Walked) (d : v ≡ c .walked) where
+      as-walked : v ≡ walked (constraintFault around) (decConstraint l s p)
+      as-walked = d ∙ ap (λ (y : Counted). y .walked) e
+
+      pub going-stops : (j : ℕ) → v ≡ walked-is.Refused j
+          → answer v 0 ≡ tally (constraintsFault around) headsIn (many Constraints.none Constraints.more (decConstraint l) n s at)
+      going-stops j e' =
+          parts (row-stops (members-fold around) (decConstraint l) s left p f (walked (constraintsFault around) (many Constraints.none Constraints.more (decConstraint l) n s at)) v j z as-walked e' (i .fault))
+          (sym (ap (added h) refused) ∙ i .heads)
+        where
+          refused : many Constraints.none Constraints.more (decConstraint l) left s p ≡ refuse j
+          refused =
+              let m : left ≡ suc (left - 1) = omega arith in
+              ap (λ (k : ℕ). many Constraints.none Constraints.more (decConstraint l) k s p) m
+              ∙ ap (λ (y : Res Constraint). bind y (λ a q. bind (many Constraints.none Constraints.more (decConstraint l) (left - 1) s q) (λ b r. got (Constraints.more a b) r))) (refused-is (constraintFault around) (decConstraint l s p) j (sym e' ∙ as-walked))
+
+      module _ (q : ℕ) (g : Fault) (e' : v ≡ walked-is.Next q g) where
+        one : Nexts (constraintFault around) (decConstraint l s p) q g
+        one = next-is (constraintFault around) (decConstraint l s p) q g (sym e' ∙ as-walked)
+
+        one-heads : c .heads ≡ headsOf (one .value)
+        one-heads = ap (λ (y : Counted). y .heads) e ∙ ap (found headsOf) (one .is)
+
+        -- heads take bytes
+        pub going-room : (h + c .heads ≤ q) × (q ≤ length s)
+        going-room =
+            let y = each-covers .heads l .covered s p (one .value) q (one .is) in
+            let y' = each-covers .constraints l .covered s p (one .value) q (one .is) in
+            let a = y .end in
+            let b = y' .end in
+            let r = y .room in
+            let r' = y' .room in
+            let o = one-heads in
+            let w = i .few in
+            (omega arith, y' .inside (omega arith))
+
+        pub going-goes : (f' : Fault) → f' ≡ lower f g → Going n at (left - 1) q f' (h + c .heads)
+        going-goes f' u = record {
+          fault = row-goes (members-fold around) (decConstraint l) s left p f (walked (constraintsFault around) (many Constraints.none Constraints.more (decConstraint l) n s at)) v q g f' z as-walked e' u (i .fault);
+          heads = sym (step ∙ ap (λ (k : ℕ). added (h + k) (many Constraints.none Constraints.more (decConstraint l) (left - 1) s q)) (sym one-heads)) ∙ i .heads;
+          few = going-room .0;
+        }
+          where
+            step : added h (many Constraints.none Constraints.more (decConstraint l) left s p) ≡ added (h + headsOf (one .value)) (many Constraints.none Constraints.more (decConstraint l) (left - 1) s q)
+            step =
+                let m : left ≡ suc (left - 1) = omega arith in
+                ap (λ (k : ℕ). added h (many Constraints.none Constraints.more (decConstraint l) k s p)) m
+                ∙ ap (λ (y : Res Constraint). added h (bind y (λ a q. bind (many Constraints.none Constraints.more (decConstraint l) (left - 1) s q) (λ b r. got (Constraints.more a b) r)))) (one .is)
+                ∙ add-member h (one .value) (many Constraints.none Constraints.more (decConstraint l) (left - 1) s q)
+
+    pub going-ends : left ≤ 0 → answer (walked-is.Next p f) h ≡ tally (constraintsFault around) headsIn (many Constraints.none Constraints.more (decConstraint l) n s at)
+    unfolding headsIn
+    going-ends z =
+        parts (row-ends (members-fold around) (decConstraint l) s left p f (walked (constraintsFault around) (many Constraints.none Constraints.more (decConstraint l) n s at)) z (i .fault))
+        (sym (ap (λ (k : ℕ). added h (many Constraints.none Constraints.more (decConstraint l) k s p)) (let m : left ≡ 0 = omega arith in m) ∙ add-zero h) ∙ i .heads)
