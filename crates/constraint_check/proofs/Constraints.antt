@@ -202,6 +202,7 @@ module _ (s : List ℕ) (l : ℕ) (around : List (List ℕ)) where
     where
       x : Res Constraints
       x = many Constraints.none Constraints.more (decConstraint l) n s at
+
       none : (y : Res Constraints) → added 0 y ≡ found headsIn y
       none (got cs p) = zero-add (headsIn cs)
       none (refuse k) = refl

@@ -157,7 +157,10 @@ fn binder_fault(s: &[u8], x: Span, path: Path, rest: Fault) -> Fault
     ensures { λ r. ⌜ r ≡ lower (nameFault (bytesOf (now (s .entry)) x)) (lower (shadowFault (namesOn (now (s .entry)) (entries path)) (bytesOf (now (s .entry)) x)) rest) ⌝ }
 {
     let shadow = shadow_fault(s, x, path);
-    task_check::lower(task_check::name_fault(s, x), task_check::lower(shadow, rest))
+    task_check::lower(
+        task_check::name_fault(s, x),
+        task_check::lower(shadow, rest),
+    )
 }
 
 // A piece that leaves the section, or a code or a name that is none.

@@ -223,10 +223,11 @@ unfoldable pub dataCtorFault : DataCtor → Fault
 dataCtorFault c = lower (nameFault (c .name)) (each binderFault (c .fields))
 
 -- 5: a datatype has a constructor
+unfoldable pub emptyFault : ℕ → Fault
+emptyFault ctors = unless (not (eqb ctors 0)) NoConstructors
+
 unfoldable pub datatypeFault : DataDecl → Fault
-datatypeFault d =
-    lower (nameFault (d .name))
-    (lower (unless (not (eqb (length (d .ctors)) 0)) NoConstructors) (each dataCtorFault (d .ctors)))
+datatypeFault d = lower (nameFault (d .name)) (lower (emptyFault (length (d .ctors))) (each dataCtorFault (d .ctors)))
 
 -- how many sorts there are in a row
 abbrev pub sortsNumber : Sorts → ℕ
@@ -234,10 +235,13 @@ sortsNumber Sorts.none = 0
 sortsNumber (Sorts.more b bs) = suc (sortsNumber bs)
 
 -- 6: a body has as many argument names as the function has inputs
+unfoldable pub arityFault : ℕ → ℕ → Fault
+arityFault args inputs = unless (eqb args inputs) Arity
+
 unfoldable pub bodyFault : ℕ → Option FunBody → Fault
 bodyFault inputs none = Sound
 bodyFault inputs (some b) =
-    lower (unless (eqb (length (b .args)) inputs) Arity) (lower (each nameFault (b .args)) (exprFault false (b .expr)))
+    lower (arityFault (length (b .args)) inputs) (lower (each nameFault (b .args)) (exprFault false (b .expr)))
 
 unfoldable pub functionFault : FunDef → Fault
 functionFault f =

@@ -1,22 +1,24 @@
+-- check_constraint begins with an empty path.
+use mathlib.Core.Path.{_∙_, ap}
+use mathlib.Core.List.{List}
+use Prim.Native.Nat.{ℕ}
+use Rattle.task.specs.Decode.{decConstraint, deepest}
+use Rattle.task.specs.Fault.{constraintFault}
+use Rattle.task.specs.Task.{headsOf}
+use Rattle.constraint_check.specs.Tally.{tally}
+use Rattle.constraint_check.specs.Around.{namesOn}
 use borrow.Author.Needs.{needs}
 use Rattle.constraint_check.proofs.check_constraint.Statement.{statement}
 use Rattle.constraint_check.proofs.check_constraint.Tie as tie
-use Rattle.constraint_check.proofs.check_constraint.Reads as reads
-use Rattle.constraint_check.proofs.check_constraint.Lts as lts
-use Rattle.constraint_check.proofs.Path.empty.Reads as empty-reads
-use Rattle.constraint_check.proofs.check_within.Reads as check-within-reads
 
--- src/lib.rt:213:30
 empty-requires : tie.Need-empty-requires
 empty-requires c κs = search needs
 
--- src/lib.rt:213:5
 check-within-requires : tie.Need-check-within-requires
 check-within-requires c κs = search needs
 
--- src/lib.rt:210:1
 returns : tie.Need-returns
-returns c = ?
+returns c = c .check-within .ensures ∙ ap (λ (os : List ℕ). tally (constraintFault (namesOn (c .before .before .before .args .s .now) os)) headsOf (decConstraint deepest (c .before .before .before .args .s .now) (c .before .before .before .args .at))) (c .before .empty .ensures .1)
 
 pub check-constraint-spec : {M : Type 1} → statement M
 check-constraint-spec = tie.close (tie.spec empty-requires check-within-requires returns)
