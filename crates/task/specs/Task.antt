@@ -25,10 +25,14 @@ bound file i = cond (ltb i 6) (offsetAt file (trailerAt file + 4 * i)) (trailerA
 abbrev pub inOrder : List ℕ → ℕ → Bool
 inOrder file i = leb (bound file i) (bound file (i + 1))
 
+-- what a file ends in
+abbrev pub mark : List ℕ
+mark = bytes "HORN"
+
 -- 1: the length, the mark and the offsets
 unfoldable pub framed : List ℕ → Bool
 framed file =
-    leb 28 (length file) && leb (length file) 60000 && same (drop (length file - 4) file) (bytes "HORN") && eqb (bound file 0) 0
+    leb 28 (length file) && leb (length file) 60000 && same (drop (length file - 4) file) mark && eqb (bound file 0) 0
     && inOrder file 0 && inOrder file 1 && inOrder file 2 && inOrder file 3 && inOrder file 4 && inOrder file 5
 
 -- a section is read up to where the next begins

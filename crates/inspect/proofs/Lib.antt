@@ -1,0 +1,3 @@
+pub mod Sections
+pub mod Trailers
+pub mod Whole

@@ -1,0 +1,2 @@
+pub mod Inspect
+pub mod Walk
