@@ -3,3 +3,4 @@ pub mod Numbers
 pub mod Covering
 pub mod Pieces
 pub mod Judging
+pub mod Items

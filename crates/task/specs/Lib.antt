@@ -2,6 +2,6 @@ pub mod Ast
 pub mod Decode
 pub mod Fault
 pub mod Task
-pub mod Laws
 pub mod Covers
+pub mod Laws
 pub mod Node

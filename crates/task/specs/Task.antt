@@ -1,13 +1,13 @@
 -- The whole file: document 01's trailer and sections, and survey's refusals 1 to 7 in their order.
 use Prim.Native.Nat.{ℕ, suc, _+_, _-_, _*_}
 use mathlib.Core.Bool.{Bool, true, false, cond, not, _&&_}
-use mathlib.Core.List.{List, []}
+use mathlib.Core.List.{List, [], _∷_, _++_}
 use lib.Dec.{leb, ltb, eqb}
 use lib.ListN.{length, take, drop}
 use Rattle.smtlib.specs.Lexicon.{bytes, same}
-use Rattle.task.specs.Ast.{Constant, Expr, Pred, Constraint, Constraints, Task}
+use Rattle.task.specs.Ast.{Constant, Expr, Pred, Constraint, Constraints, DataCtor, DataDecl, Task}
 use Rattle.task.specs.Decode.{Res, got, refuse, bind, Decoder, little, comment, datatype, constant, function, kvar, decConstraint, deepest, section}
-use Rattle.task.specs.Fault.{refusalOf, taskFault}
+use Rattle.task.specs.Fault.{isOne, refusalOf, taskFault}
 
 -- where the trailer begins
 abbrev pub trailerAt : List ℕ → ℕ
@@ -109,3 +109,24 @@ unfoldable mutual
 -- the number of declarations
 abbrev pub declarations : Task → ℕ
 declarations t = length (t .datatypes) + length (t .constants) + length (t .functions) + length (t .kvars)
+
+-- the names that a datatype declares: its own, or those of its constructors
+abbrev pub ctorNames : List DataCtor → List (List ℕ)
+ctorNames [] = []
+ctorNames (c ∷ cs) = c .name ∷ ctorNames cs
+
+abbrev pub declared : Bool → DataDecl → List (List ℕ)
+declared false d = d .name ∷ []
+declared true d = ctorNames (d .ctors)
+
+-- the names that datatypes declare
+abbrev pub declaredBy : Bool → List DataDecl → List (List ℕ)
+declaredBy ctors [] = []
+declaredBy ctors (d ∷ ds) = declared ctors d ++ declaredBy ctors ds
+
+-- a name is that of a declared datatype; it is that of a declared constructor
+abbrev pub isDatatype : List ℕ → List DataDecl → Bool
+isDatatype x ds = isOne x (declaredBy false ds)
+
+abbrev pub isCtor : List ℕ → List DataDecl → Bool
+isCtor x ds = isOne x (declaredBy true ds)
