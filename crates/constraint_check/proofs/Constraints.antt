@@ -20,7 +20,6 @@ use Rattle.task.specs.Ast.{Sort, Pred, Constraint, Constraints}
 use Rattle.task.specs.Decode.{Res, got, refuse, bind, Decoder, give, _▹_, number, many, counted, name, decSort, decPred, decConstraint}
 use Rattle.task.specs.Fault.{lower, each, nameFault, sortFault, predFault, shadowFault, constraintFault, constraintsFault}
 use Rattle.task.specs.Task.{literallyTrue, predHeads, headsOf, headsIn}
-use Rattle.task.specs.Covers.{Covered, EachCovers}
 use Rattle.task.specs.Node.{numberOf, bytesOf, spanOf, constraintOf, ConstraintAt}
 use Rattle.task.proofs.Judging.{lower-assoc, sound-lower}
 use Rattle.task.proofs.Pieces.{each-covers}
@@ -28,7 +27,6 @@ use Rattle.task_check.specs.declared.Walked.{Walked}
 use Rattle.task_check.specs.declared.Walked.the-variants as walked-is
 use Rattle.task_check.specs.Walk.{walked, after, readTrue}
 use Rattle.task_check.proofs.Rows.{after-sound, Fold, Nexts, next-is, refused-is, row-goes, row-stops, row-ends}
-use Rattle.task_check.proofs.Exprs.{lasts}
 use Rattle.constraint_check.specs.declared.Counted.{Counted}
 use Rattle.constraint_check.specs.Tally.{answer, found, tally}
 use Rattle.constraint_check.specs.Around.{namesOn, forAll}

@@ -15,5 +15,6 @@ abbrev pub found : {A : Type 0} → (A → ℕ) → Res A → ℕ
 found number (got a p) = number a
 found number (refuse k) = 0
 
+-- the answer for a decoded piece, or for a refusal
 abbrev pub tally : {A : Type 0} → (A → Fault) → (A → ℕ) → Res A → Counted
 tally fault number x = answer (walked fault x) (found number x)

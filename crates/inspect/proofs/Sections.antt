@@ -13,13 +13,13 @@ use Rattle.task.specs.declared.Fault.{Fault}
 use Rattle.task.specs.declared.Fault.the-variants.{Sound}
 use Rattle.task.specs.Decode.{Res, got, refuse, bind, Decoder, items, section, comment, datatype, constant, function, kvar}
 use Rattle.task.specs.Fault.{lower, each, commentFault, datatypeFault, binderFault, functionFault, kvarFault}
-use Rattle.task.specs.Covers.{Covers, Covered, CoversSome, EachCovers}
+use Rattle.task.specs.Covers.{CoversSome}
 use Rattle.task.proofs.Judging.{lower-sound, sound-lower, lower-assoc}
 use Rattle.task.proofs.Pieces.{each-covers}
 use Rattle.task_check.specs.declared.Walked.{Walked}
 use Rattle.task_check.specs.declared.Walked.the-variants as walked-is
 use Rattle.task_check.specs.Walk.{walked}
-use Rattle.task_check.proofs.Rows.{Nexts, next-is}
+use Rattle.task_check.proofs.Rows.{next-is}
 use Rattle.item_check.specs.declared.Section.{Section}
 use Rattle.item_check.specs.declared.Section.the-variants.{Comments, Datatypes, Constants, Functions, KVars}
 use Rattle.item_check.specs.Items.{itemWalk}

@@ -4,18 +4,18 @@ use mathlib.Core.Bool.{Bool, true, false, cond, _&&_}
 use mathlib.Core.List.{List}
 use Prim.Native.Nat.{ℕ, _+_, _-_, _*_, _<_, _≤_}
 use native.Mathlib.Omega.{arith}
-use lib.Dec.{T, leb, ltb, eqb}
+use lib.Dec.{T, leb, eqb}
 use lib.ListN.{length, take, drop, length-drop}
 use lib.Seq.{take-all}
-use borrow.Author.Tests.{le-leb, lt-leb, lt-ltb, eq-eqb, ne-eqb, leb-true, eqb-true}
+use borrow.Author.Tests.{le-leb, lt-leb, lt-ltb, eq-eqb, ne-eqb, leb-true}
 use Rattle.smtlib.specs.Lexicon.{same}
 use Rattle.smtlib.proofs.Bools.{is-true, true-holds, and-left, and-right}
 use Rattle.task.specs.declared.Number.{Number}
 use Rattle.task.specs.declared.Number.the-variants as number-is
-use Rattle.task.specs.Decode.{got, refuse, number}
+use Rattle.task.specs.Decode.{number}
 use Rattle.task.specs.Task.{mark, bound, inOrder, framed}
 use Rattle.task.specs.Node.{numberOf}
-use Rattle.task.proofs.Reading.{Reads, number-fits, number-got, number-refused, got-refuse}
+use Rattle.task.proofs.Reading.{number-got, number-refused}
 use Rattle.inspect.specs.declared.Bounds.{Bounds}
 use Rattle.inspect.specs.declared.Trailer.{Trailer}
 use Rattle.inspect.specs.declared.Trailer.the-variants as trailer-is

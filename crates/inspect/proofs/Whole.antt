@@ -17,8 +17,6 @@ use Rattle.task.specs.Decode.{Res, got, refuse, bind, section, comment, datatyp
 use Rattle.task.specs.Fault.{lower, each, refusalOf, commentFault, datatypeFault, binderFault, functionFault, kvarFault, constraintFault, taskFault}
 use Rattle.task.specs.Task.{bound, framed, within, decoded, judged, taskOf, headsOf}
 use Rattle.task.proofs.Judging.{lower-assoc}
-use Rattle.task_check.specs.declared.Walked.{Walked}
-use Rattle.task_check.specs.declared.Walked.the-variants as walked-is
 use Rattle.constraint_check.specs.declared.Counted.{Counted}
 use Rattle.constraint_check.specs.Tally.{tally}
 use Rattle.item_check.specs.declared.Section.the-variants.{Comments, Datatypes, Constants, Functions, KVars}

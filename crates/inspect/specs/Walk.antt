@@ -29,6 +29,7 @@ ordered b =
     eqb (b .comments) 0 && leb (b .comments) (b .datatypes) && leb (b .datatypes) (b .constants) && leb (b .constants) (b .functions)
     && leb (b .functions) (b .kvars) && leb (b .kvars) (b .constraint) && leb (b .constraint) (b .end)
 
+-- where the sections begin, if the file is framed
 abbrev pub trailerOf : List ℕ → Trailer
 trailerOf file = cond (framed file) (trailer-is.Read (boundsOf file)) trailer-is.Refused
 
@@ -93,6 +94,7 @@ abbrev pub conclude : Bounds → ℕ → Fault → Walked → ℕ → Inspected
 conclude b n f (walked-is.Next p g) heads = cond (eqb p (b .end)) (judge b n heads (lower f g)) (inspected-is.Refused 2)
 conclude b n f (walked-is.Refused k) heads = inspected-is.Refused k
 
+-- the answer by the walks of the items and of the constraint
 abbrev pub finish : Bounds → Listed → Counted → Inspected
 finish b (listed-is.Items n f) c = conclude b n f (c .walked) (c .heads)
 finish b (listed-is.Refused k) c = inspected-is.Refused k

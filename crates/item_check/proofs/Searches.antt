@@ -19,9 +19,8 @@ use Rattle.task.specs.Ast.{DataCtor, DataDecl}
 use Rattle.task.specs.Decode.{Res, got, refuse, bind, Decoder, number, many, counted, name, binder, deepest, dataCtor, datatype, items}
 use Rattle.task.specs.Fault.{isOne, dataCtorFault, datatypeFault}
 use Rattle.task.specs.Task.{ctorNames, declared, declaredBy}
-use Rattle.task.specs.Covers.{Covered, EachCovers}
 use Rattle.task.specs.Node.{numberOf, bytesOf, spanOf}
-use Rattle.task.proofs.Reading.{Before, bind-got, got-refuse}
+use Rattle.task.proofs.Reading.{bind-got, got-refuse}
 use Rattle.task.proofs.Pieces.{each-covers}
 use Rattle.task_check.specs.declared.Walked.{Walked}
 use Rattle.task_check.specs.declared.Walked.the-variants as walked-is

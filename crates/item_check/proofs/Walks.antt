@@ -14,16 +14,15 @@ use Rattle.task.specs.declared.SpanRead.{SpanRead}
 use Rattle.task.specs.declared.SpanRead.the-variants as span-is
 use Rattle.task.specs.declared.Number.{Number}
 use Rattle.task.specs.declared.Number.the-variants as number-is
-use Rattle.task.specs.Ast.{Sort, Sorts, Expr, DataCtor, DataDecl, FunBody, FunDef, KVarDecl}
+use Rattle.task.specs.Ast.{Sort, Sorts, FunBody, FunDef}
 use Rattle.task.specs.Decode.{Res, got, refuse, bind, Decoder, give, _▹_, number, many, counted, name, flag, decSort, decExpr, deepest, binder, dataCtor, datatype, body, function, kvar}
 use Rattle.task.specs.Fault.{lower, each, nameFault, sortFault, sortsFault, binderFault, exprFault, dataCtorFault, emptyFault, datatypeFault, sortsNumber, arityFault, bodyFault, functionFault, kvarFault}
 use Rattle.task.specs.Node.{numberOf, bytesOf, spanOf, flagOf}
-use Rattle.task.proofs.Judging.{lower-assoc, sound-lower, lower-sound}
-use Rattle.task.proofs.Reading.{Before, bind-got, got-refuse}
+use Rattle.task.proofs.Judging.{lower-assoc}
+use Rattle.task.proofs.Reading.{bind-got}
 use Rattle.task_check.specs.declared.Walked.{Walked}
 use Rattle.task_check.specs.declared.Walked.the-variants as walked-is
 use Rattle.task_check.specs.Walk.{walked, after}
-use Rattle.task_check.proofs.Rows.{after-sound, after-after}
 use Rattle.task_check.proofs.Exprs.{stops, goes}
 use Rattle.item_check.specs.Items.{signature, signatureFault}
 

@@ -2,15 +2,15 @@
 use mathlib.Core.Path.{_≡_, refl, sym, ap, _∙_, subst}
 use mathlib.Core.Logic.{⊎-elim}
 use mathlib.Core.Bool.{Bool, true, false, cond}
-use mathlib.Core.List.{List, [], _∷_, _++_}
-use Prim.Native.Nat.{ℕ, zero, suc, _+_, _-_, _*_, _<_, _≤_}
+use mathlib.Core.List.{List, [], _∷_}
+use Prim.Native.Nat.{ℕ, zero, suc, _+_, _-_, _≤_}
 use native.Mathlib.Omega.{arith}
 use native.Mathlib.Nat.{suc-add, zero-add, add-zero, add-assoc}
-use lib.ListN.{length, take, drop, getD}
+use lib.ListN.{take, drop, getD}
 use lib.Seq.{drop-drop, take-nil}
-use Rattle.task.specs.Decode.{Res, got, refuse, bind, Decoder, give, refusal, _▹_, raw, little, number, many, counted, coded}
-use Rattle.task.specs.Covers.{Covered, Covers, CoversSome}
-use Rattle.task.proofs.Reading.{raw-fits, raw-got, Fits, bind-got, Before, got-refuse, le-or-lt}
+use Rattle.task.specs.Decode.{got, Decoder, give, refusal, _▹_, raw, little, number, many, coded}
+use Rattle.task.specs.Covers.{Covers}
+use Rattle.task.proofs.Reading.{raw-fits, raw-got, bind-got, got-refuse, le-or-lt}
 
 -- parts of equal parts
 take-front : (m n : ℕ) (xs : List ℕ) → take m (take (m + n) xs) ≡ take m xs

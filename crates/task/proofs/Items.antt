@@ -1,16 +1,16 @@
 -- The walk over a section's items.
-use mathlib.Core.Path.{_≡_, refl, sym, ap, _∙_}
+use mathlib.Core.Path.{_≡_, refl, ap, _∙_}
 use mathlib.Core.Bool.{Bool, true, false, cond}
 use mathlib.Core.List.{List, [], _∷_}
 use Prim.Native.Nat.{ℕ, zero, suc, _+_, _<_, _≤_}
 use native.Mathlib.Omega.{arith}
 use lib.Dec.{leb}
 use lib.ListN.{length, getD}
-use borrow.Author.Tests.{leb-true, leb-false}
-use Rattle.task.specs.Decode.{Res, got, refuse, bind, Decoder, items, section}
-use Rattle.task.specs.Covers.{Covers, Covered, CoversSome}
+use borrow.Author.Tests.{leb-true}
+use Rattle.task.specs.Decode.{Res, got, bind, Decoder, items}
+use Rattle.task.specs.Covers.{CoversSome}
 use Rattle.task.specs.Laws.{itemAt, Walks, SectionWalks}
-use Rattle.task.proofs.Reading.{Before, bind-got, got-refuse}
+use Rattle.task.proofs.Reading.{bind-got}
 
 -- a position before others
 abbrev following : ℕ → (ℕ → ℕ) → ℕ → ℕ

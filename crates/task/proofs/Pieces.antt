@@ -1,12 +1,12 @@
 -- The pieces of a file cover their bytes, each as it is put together.
 use mathlib.Core.Bool.{Bool, true, false, cond}
 use mathlib.Core.List.{List, [], _∷_}
-use mathlib.Core.Option.{Option, none, some}
-use Prim.Native.Nat.{ℕ, zero, suc, _+_, _-_, _≤_}
+use mathlib.Core.Option.{none}
+use Prim.Native.Nat.{ℕ, zero, suc, _-_, _≤_}
 use native.Mathlib.Omega.{arith}
 use lib.Dec.{eqb}
-use Rattle.task.specs.Ast.{SortCtor, Sort, Sorts, Binder, Constant, Expr, Exprs, Pred, Constraint, Constraints}
-use Rattle.task.specs.Decode.{Decoder, give, refusal, _▹_, raw, number, many, counted, name, text, coded, flags, flag, sortForms, decSort, binder, binOps, binRels, quantifiers, thyFuncs, extends, given, exprForms, decExpr, predForms, decPred, constraintForms, decConstraint, deepest, dataCtor, datatype, body, function, kvar}
+use Rattle.task.specs.Ast.{Sort, Sorts, Expr, Exprs, Constraint, Constraints}
+use Rattle.task.specs.Decode.{Decoder, give, refusal, _▹_, raw, number, many, counted, name, text, coded, flags, flag, sortForms, decSort, binder, binOps, binRels, quantifiers, thyFuncs, extends, given, exprForms, decExpr, predForms, decPred, constraintForms, decConstraint, deepest, dataCtor, body}
 use Rattle.task.specs.Task.{literallyTrue, predHeads, headsOf, headsIn}
 use Rattle.task.specs.Covers.{Covers, CoversSome, EachCovers}
 use Rattle.task.proofs.Covering.{covers-less, covers-refusal, covers-give, covers-cond, covers-raw, covers-bind, covers-many, covers-number, CoverAll, covers-coded}

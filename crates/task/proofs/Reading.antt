@@ -1,16 +1,15 @@
 -- Laws of the decoders' primitives, with premises in the form in which the code's tests give them.
 use mathlib.Core.Path.{_≡_, refl, sym, ap, _∙_}
 use mathlib.Core.Logic.{_⊎_, inl, inr, ⊎-elim}
-use mathlib.Core.List.{List, [], _∷_, _++_}
+use mathlib.Core.List.{List, []}
 use mathlib.Core.Bool.{Bool, true, false}
-use Prim.Native.Nat.{ℕ, zero, suc, _+_, _-_, _*_, _^_, _<_, _≤_}
-use native.Mathlib.Numerals.{add-one, sub-one}
+use Prim.Native.Nat.{ℕ, zero, suc, _+_, _-_, _<_, _≤_}
 use native.Mathlib.Omega.{arith}
 use lib.Dec.{leb}
 use lib.ListN.{length, take, drop, getD, List·getD-eq-default, length-drop, drop-of-length-le}
 use lib.Seq.{drop-cons, take-nil, take-all}
 use borrow.Author.Tests.{le-leb, lt-leb, leb-true, leb-false}
-use Rattle.task.specs.Decode.{Res, got, refuse, Decoder, refusal, bind, _▹_, raw, little, number, coded}
+use Rattle.task.specs.Decode.{Res, got, refuse, Decoder, refusal, bind, raw, little, number, coded}
 
 pub raw-fits : (n : ℕ) (s : List ℕ) (at : ℕ) → at + n ≤ length s → raw n s at ≡ got (take n (drop at s)) (at + n)
 unfolding raw

@@ -14,6 +14,7 @@ pub data SortCtor : Type 0 where
   named : List ℕ → SortCtor
 
 mutual
+  -- a sort; Var and Abs have the number of a variable and of variables
   pub data Sort : Type 0 where
     int bool real str : Sort
     bitVec : Sort → Sort
@@ -33,6 +34,7 @@ pub record Binder : Type 0 where
   pub name : List ℕ
   pub sort : Sort
 
+-- a constant; a BitVec has its value and its width
 pub data Constant : Type 0 where
   numeral : ℕ → Constant
   real : ℕ → Constant
@@ -66,6 +68,7 @@ mutual
     none : Exprs
     more : Expr → Exprs → Exprs
 
+-- a KVar with its arguments, or an expression
 pub data Pred : Type 0 where
   kvar : List ℕ → Exprs → Pred
   expr : Expr → Pred
@@ -82,19 +85,23 @@ mutual
     none : Constraints
     more : Constraint → Constraints → Constraints
 
+-- a constructor of a datatype
 pub record DataCtor : Type 0 where
   pub name : List ℕ
   pub fields : List Binder
 
+-- a datatype with its number of parameters
 pub record DataDecl : Type 0 where
   pub name : List ℕ
   pub vars : ℕ
   pub ctors : List DataCtor
 
+-- what a function is defined as
 pub record FunBody : Type 0 where
   pub args : List (List ℕ)
   pub expr : Expr
 
+-- a function with its number of parameters; the source keeps those, the inputs and the output in a FunSort
 pub record FunDef : Type 0 where
   pub name : List ℕ
   pub params : ℕ
@@ -102,10 +109,12 @@ pub record FunDef : Type 0 where
   pub output : Sort
   pub body : Option FunBody
 
+-- a KVar with the sorts of its arguments
 pub record KVarDecl : Type 0 where
   pub kvid : List ℕ
   pub sorts : Sorts
 
+-- the sections of a file, in their order
 pub record Task : Type 0 where
   pub comments : List (List ℕ)
   pub datatypes : List DataDecl

@@ -81,6 +81,7 @@ coded ds = number 1 ▹ λ c. getD ds c (refusal 2)
 abbrev pub flags : List (Decoder Bool)
 flags = give false ∷ give true ∷ []
 
+-- a flag
 abbrev pub flag : Decoder Bool
 flag = coded flags
 
@@ -206,17 +207,20 @@ decConstraint (suc l) = coded (constraintForms l (decConstraint l))
 abbrev pub deepest : ℕ
 deepest = 256
 
--- an item of each section but the last; what stands directly in it is at level 1
+-- What stands directly in an item is at level 1. A comment is a text.
 abbrev pub comment : Decoder (List ℕ)
 comment = text
 
+-- a constructor: a name and counted fields
 abbrev pub dataCtor : Decoder DataCtor
 dataCtor = name ▹ λ n. counted [] _∷_ (binder deepest) ▹ λ fs. give (record { name = n; fields = fs })
 
+-- a datatype: a name, its number of parameters and counted constructors
 abbrev pub datatype : Decoder DataDecl
 datatype =
     name ▹ λ n. number 2 ▹ λ vars. counted [] _∷_ dataCtor ▹ λ cs. give (record { name = n; vars = vars; ctors = cs })
 
+-- a constant: a name and a sort
 abbrev pub constant : Decoder Binder
 constant = binder deepest
 
@@ -225,11 +229,13 @@ abbrev pub body : Bool → Decoder (Option FunBody)
 body false = give none
 body true = counted [] _∷_ name ▹ λ xs. decExpr deepest ▹ λ e. give (some (record { args = xs; expr = e }))
 
+-- a function: a name, its number of parameters, counted inputs, the output, and perhaps a body
 abbrev pub function : Decoder FunDef
 function =
     name ▹ λ n. number 2 ▹ λ params. counted Sorts.none Sorts.more (decSort deepest) ▹ λ ins. decSort deepest ▹ λ out.
     flag ▹ λ b. body b ▹ λ o. give (record { name = n; params = params; inputs = ins; output = out; body = o })
 
+-- a KVar: a name and counted sorts
 abbrev pub kvar : Decoder KVarDecl
 kvar = name ▹ λ n. counted Sorts.none Sorts.more (decSort deepest) ▹ λ bs. give (record { kvid = n; sorts = bs })
 

@@ -57,24 +57,29 @@ nameFault x = unless (isSymbol x) Text
 abbrev pub shown : Bool → ℕ → Bool
 shown quote b = visible b && (quote || not (eqb b (code "\"")))
 
+-- a text at fault, given whether it may have quotation marks
 unfoldable pub textFault : Bool → List ℕ → Fault
 textFault quote t = unless (all (shown quote) t) Text
 
+-- a comment may
 abbrev pub commentFault : List ℕ → Fault
 commentFault = textFault true
 
+-- a string may not
 abbrev pub stringFault : List ℕ → Fault
 stringFault = textFault false
 
+-- a datatype's name in a sort
 abbrev pub ctorFault : SortCtor → Fault
 ctorFault SortCtor.set = Sound
 ctorFault SortCtor.map = Sound
 ctorFault (SortCtor.named x) = nameFault x
 
--- 5: BvSize stands directly under BitVec, and nothing else does. The test tells whether the sort stands there.
+-- 5: BvSize stands directly under BitVec, and nothing else does. Given whether a sort stands there: the fault of one that is no BvSize
 abbrev pub widthFault : Bool → Fault
 widthFault under = unless (not under) BitVecWidth
 
+-- a sort
 unfoldable mutual
   pub sortFault : Bool → Sort → Fault
   sortFault under Sort.int = widthFault under
@@ -92,9 +97,11 @@ unfoldable mutual
   sortsFault Sorts.none = Sound
   sortsFault (Sorts.more b bs) = lower (sortFault false b) (sortsFault bs)
 
+-- a name with its sort
 unfoldable pub binderFault : Binder → Fault
 binderFault b = lower (nameFault (b .name)) (sortFault false (b .sort))
 
+-- of constants only strings can be at fault
 abbrev pub constantFault : Constant → Fault
 constantFault (Constant.numeral n) = Sound
 constantFault (Constant.real n) = Sound
@@ -157,16 +164,17 @@ needsSort MapStore = false
 unfoldable pub thyFuncFault : Bool → ThyFunc → Fault
 thyFuncFault head f = unless (head || not (needsSort f)) Unqualified
 
--- whether an output sort is given, and its fault
+-- whether an output sort is given
 abbrev pub isGiven : Option Sort → Bool
 isGiven none = false
 isGiven (some b) = true
 
+-- an output sort, if it is given
 abbrev pub givenFault : Option Sort → Fault
 givenFault none = Sound
 givenFault (some b) = sortFault false b
 
--- The test tells whether the expression is the head of an application with an output sort.
+-- an expression, given whether it is the head of an application with an output sort
 unfoldable mutual
   pub exprFault : Bool → Expr → Fault
   exprFault head (Expr.constant c) = constantFault c
@@ -191,6 +199,7 @@ unfoldable mutual
   exprsFault Exprs.none = Sound
   exprsFault (Exprs.more e es) = lower (exprFault false e) (exprsFault es)
 
+-- a predicate
 unfoldable pub predFault : Pred → Fault
 predFault (Pred.kvar k es) = lower (nameFault k) (exprsFault es)
 predFault (Pred.expr e) = exprFault false e
@@ -204,7 +213,7 @@ isOne x (y ∷ ys) = same x y || isOne x ys
 unfoldable pub shadowFault : List (List ℕ) → List ℕ → Fault
 shadowFault around x = unless (not (isOne x around)) Shadowed
 
--- The names of the ForAlls around it are given, the outermost first.
+-- a constraint, given the names of the ForAlls around it, the outermost first
 unfoldable mutual
   pub constraintFault : List (List ℕ) → Constraint → Fault
   constraintFault around (Constraint.pred p) = predFault p
@@ -219,6 +228,7 @@ unfoldable mutual
   constraintsFault around Constraints.none = Sound
   constraintsFault around (Constraints.more c cs) = lower (constraintFault around c) (constraintsFault around cs)
 
+-- a constructor of a datatype
 unfoldable pub dataCtorFault : DataCtor → Fault
 dataCtorFault c = lower (nameFault (c .name)) (each binderFault (c .fields))
 
@@ -226,6 +236,7 @@ dataCtorFault c = lower (nameFault (c .name)) (each binderFault (c .fields))
 unfoldable pub emptyFault : ℕ → Fault
 emptyFault ctors = unless (not (eqb ctors 0)) NoConstructors
 
+-- a datatype
 unfoldable pub datatypeFault : DataDecl → Fault
 datatypeFault d = lower (nameFault (d .name)) (lower (emptyFault (length (d .ctors))) (each dataCtorFault (d .ctors)))
 
@@ -238,16 +249,19 @@ sortsNumber (Sorts.more b bs) = suc (sortsNumber bs)
 unfoldable pub arityFault : ℕ → ℕ → Fault
 arityFault args inputs = unless (eqb args inputs) Arity
 
+-- a body, given the number of inputs
 unfoldable pub bodyFault : ℕ → Option FunBody → Fault
 bodyFault inputs none = Sound
 bodyFault inputs (some b) =
     lower (arityFault (length (b .args)) inputs) (lower (each nameFault (b .args)) (exprFault false (b .expr)))
 
+-- a function
 unfoldable pub functionFault : FunDef → Fault
 functionFault f =
     lower (nameFault (f .name))
     (lower (sortsFault (f .inputs)) (lower (sortFault false (f .output)) (bodyFault (sortsNumber (f .inputs)) (f .body))))
 
+-- a KVar
 unfoldable pub kvarFault : KVarDecl → Fault
 kvarFault k = lower (nameFault (k .kvid)) (sortsFault (k .sorts))
 

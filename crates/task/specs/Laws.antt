@@ -5,7 +5,7 @@ use mathlib.Core.List.{List}
 use lib.ListN.{length, getD}
 use Rattle.task.specs.declared.Fault.{Fault}
 use Rattle.task.specs.declared.Fault.the-variants.{Sound}
-use Rattle.task.specs.Decode.{Res, got, Decoder, _▹_, section}
+use Rattle.task.specs.Decode.{got, Decoder, _▹_, section}
 use Rattle.task.specs.Fault.{lower}
 use Rattle.task.specs.Covers.{CoversSome}
 
@@ -26,5 +26,6 @@ pub record Walks {A : Type 0} (d : Decoder A) (s : List ℕ) (at : ℕ) (xs : Li
   pub nth : (n : ℕ) (default : A) → n < length xs → itemAt n d s at ≡ got (getD xs n default) (next n)
   pub end : q ≡ length s
 
+-- so is every section that decodes
 pub record SectionWalks : Type 1 where
   pub walks : {A : Type 0} (d : Decoder A) (s : List ℕ) (at : ℕ) (xs : List A) (q : ℕ) → CoversSome d → at ≤ length s → section d s at ≡ got xs q → Walks d s at xs q

@@ -34,7 +34,7 @@ use Rattle.task.specs.declared.PredNode.the-variants as pred-node
 use Rattle.task.specs.declared.ConstraintNode.{ConstraintNode}
 use Rattle.task.specs.declared.ConstraintNode.the-variants as constraint-node
 use Rattle.task.specs.Ast.{SortCtor, Sort, Sorts, Constant, Expr, Exprs, Pred, Constraint, Constraints}
-use Rattle.task.specs.Decode.{Res, got, refuse, Decoder, give, refusal, _▹_, many, counted, name, coded, given, binder, decSort, decPred, sortForms, exprForms, predForms, constraintForms, binOps, binRels, thyFuncs}
+use Rattle.task.specs.Decode.{Res, got, refuse, Decoder, give, refusal, _▹_, many, counted, name, coded, given, binder, decSort, decPred, sortForms, exprForms, predForms, constraintForms}
 
 -- a number
 abbrev pub numberOf : Number → Res ℕ
@@ -55,22 +55,27 @@ abbrev pub spanOf : List ℕ → SpanRead → Res (List ℕ)
 spanOf s (span-is.At x p) = got (bytesOf s x) p
 spanOf s span-is.Refused = refuse 2
 
+-- a flag
 abbrev pub flagOf : FlagRead → Res Bool
 flagOf (flag-is.Flag b p) = got b p
 flagOf flag-is.Refused = refuse 2
 
+-- an operation
 abbrev pub binOpOf : BinOpRead → Res BinOp
 binOpOf (op-is.Op o p) = got o p
 binOpOf op-is.Refused = refuse 2
 
+-- a relation
 abbrev pub binRelOf : BinRelRead → Res BinRel
 binRelOf (rel-is.Rel r p) = got r p
 binRelOf rel-is.Refused = refuse 2
 
+-- a theory function
 abbrev pub thyFuncOf : ThyRead → Res ThyFunc
 thyFuncOf (thy-is.Func f p) = got f p
 thyFuncOf thy-is.Refused = refuse 2
 
+-- a quantifier
 abbrev pub quantifierOf : QuantifierRead → Res Quantifier
 quantifierOf (quantifier-is.Is q p) = got q p
 quantifierOf quantifier-is.Refused = refuse 2
@@ -126,9 +131,11 @@ exprOf s l expr (expr-node.Quantifier q n p) =
     (many [] _∷_ (binder l) n ▹ λ bs. expr ▹ λ e. give (Expr.quantifier q bs e)) s p
 exprOf s l expr expr-node.Refused = refuse 2
 
+-- the node is what stands behind code k
 unfoldable pub ExprForm : ℕ → List ℕ → ℕ → ExprNode → Type 0
 ExprForm k s p n = (l : ℕ) (expr : Decoder Expr) → getD (exprForms l expr) k (refusal 2) s p ≡ exprOf s l expr n
 
+-- the node is what stands at the position
 unfoldable pub ExprAt : List ℕ → ℕ → ExprNode → Type 0
 ExprAt s at n = (l : ℕ) (expr : Decoder Expr) → coded (exprForms l expr) s at ≡ exprOf s l expr n
 
@@ -138,9 +145,11 @@ predOf s expr (pred-node.KVar x n p) = (many Exprs.none Exprs.more expr n ▹ λ
 predOf s expr (pred-node.Expr p) = (expr ▹ λ e. give (Pred.expr e)) s p
 predOf s expr pred-node.Refused = refuse 2
 
+-- the node is what stands behind code k
 unfoldable pub PredForm : ℕ → List ℕ → ℕ → PredNode → Type 0
 PredForm k s p n = (expr : Decoder Expr) → getD (predForms expr) k (refusal 2) s p ≡ predOf s expr n
 
+-- the node is what stands at the position
 unfoldable pub PredAt : List ℕ → ℕ → PredNode → Type 0
 PredAt s at n = (expr : Decoder Expr) → coded (predForms expr) s at ≡ predOf s expr n
 
@@ -153,8 +162,10 @@ constraintOf s l constraint (constraint-node.ForAll p) =
     (name ▹ λ x. decSort l ▹ λ b. counted [] _∷_ (decPred l) ▹ λ ps. constraint ▹ λ c. give (Constraint.forAll x b ps c)) s p
 constraintOf s l constraint constraint-node.Refused = refuse 2
 
+-- the node is what stands behind code k
 unfoldable pub ConstraintForm : ℕ → List ℕ → ℕ → ConstraintNode → Type 0
 ConstraintForm k s p n = (l : ℕ) (constraint : Decoder Constraint) → getD (constraintForms l constraint) k (refusal 2) s p ≡ constraintOf s l constraint n
 
+-- the node is what stands at the position
 unfoldable pub ConstraintAt : List ℕ → ℕ → ConstraintNode → Type 0
 ConstraintAt s at n = (l : ℕ) (constraint : Decoder Constraint) → coded (constraintForms l constraint) s at ≡ constraintOf s l constraint n

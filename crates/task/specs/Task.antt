@@ -1,5 +1,5 @@
 -- The whole file: document 01's trailer and sections, and survey's refusals 1 to 7 in their order.
-use Prim.Native.Nat.{ℕ, suc, _+_, _-_, _*_}
+use Prim.Native.Nat.{ℕ, _+_, _-_, _*_}
 use mathlib.Core.Bool.{Bool, true, false, cond, not, _&&_}
 use mathlib.Core.List.{List, [], _∷_, _++_}
 use lib.Dec.{leb, ltb, eqb}
@@ -60,7 +60,7 @@ judged t end = cond (eqb (refusalOf (taskFault t)) 0) (got t end) (refuse (refus
 unfoldable pub taskOf : List ℕ → Res Task
 taskOf file = cond (framed file) (bind (decoded file) judged) (refuse 1)
 
--- an expression is Boolean true
+-- a constant is Boolean true
 abbrev pub constantIsTrue : Constant → Bool
 constantIsTrue (Constant.numeral n) = false
 constantIsTrue (Constant.real n) = false
@@ -68,6 +68,7 @@ constantIsTrue (Constant.boolean b) = b
 constantIsTrue (Constant.string t) = false
 constantIsTrue (Constant.bitVec n w) = false
 
+-- an expression is Boolean true
 abbrev pub isTrue : Expr → Bool
 isTrue (Expr.constant c) = constantIsTrue c
 isTrue (Expr.var x) = false
@@ -92,10 +93,11 @@ unfoldable pub literallyTrue : Pred → Bool
 literallyTrue (Pred.kvar k es) = false
 literallyTrue (Pred.expr e) = isTrue e
 
--- the number of heads that are not literally true
+-- the number of heads that are not literally true: in a head
 unfoldable pub predHeads : Pred → ℕ
 predHeads p = cond (literallyTrue p) 0 1
 
+-- in a constraint
 unfoldable mutual
   pub headsOf : Constraint → ℕ
   headsOf (Constraint.pred p) = predHeads p
@@ -110,11 +112,12 @@ unfoldable mutual
 abbrev pub declarations : Task → ℕ
 declarations t = length (t .datatypes) + length (t .constants) + length (t .functions) + length (t .kvars)
 
--- the names that a datatype declares: its own, or those of its constructors
+-- the names of constructors
 abbrev pub ctorNames : List DataCtor → List (List ℕ)
 ctorNames [] = []
 ctorNames (c ∷ cs) = c .name ∷ ctorNames cs
 
+-- the names that a datatype declares: its own, or those of its constructors
 abbrev pub declared : Bool → DataDecl → List (List ℕ)
 declared false d = d .name ∷ []
 declared true d = ctorNames (d .ctors)
@@ -124,9 +127,10 @@ abbrev pub declaredBy : Bool → List DataDecl → List (List ℕ)
 declaredBy ctors [] = []
 declaredBy ctors (d ∷ ds) = declared ctors d ++ declaredBy ctors ds
 
--- a name is that of a declared datatype; it is that of a declared constructor
+-- a name is that of a declared datatype
 abbrev pub isDatatype : List ℕ → List DataDecl → Bool
 isDatatype x ds = isOne x (declaredBy false ds)
 
+-- a name is that of a declared constructor
 abbrev pub isCtor : List ℕ → List DataDecl → Bool
 isCtor x ds = isOne x (declaredBy true ds)

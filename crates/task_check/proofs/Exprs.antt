@@ -16,9 +16,9 @@ use Rattle.task.specs.declared.SpanRead.{SpanRead}
 use Rattle.task.specs.declared.SpanRead.the-variants as span-is
 use Rattle.task.specs.declared.ExprNode.{ExprNode}
 use Rattle.task.specs.declared.ExprNode.the-variants as expr-node
-use Rattle.task.specs.Ast.{Sort, Binder, Constant, Expr, Exprs}
-use Rattle.task.specs.Decode.{Res, got, refuse, bind, Decoder, give, _▹_, number, many, counted, name, binder, given, decSort, decExpr}
-use Rattle.task.specs.Fault.{lower, each, nameFault, sortFault, binderFault, isGiven, givenFault, thyFuncFault, exprFault, exprsFault}
+use Rattle.task.specs.Ast.{Sort, Constant, Expr, Exprs}
+use Rattle.task.specs.Decode.{Res, got, refuse, bind, give, _▹_, number, many, counted, name, binder, given, decSort, decExpr}
+use Rattle.task.specs.Fault.{lower, each, nameFault, sortFault, binderFault, isGiven, givenFault, exprFault, exprsFault}
 use Rattle.task.specs.Node.{numberOf, bytesOf, spanOf, exprOf, ExprAt}
 use Rattle.task.proofs.Judging.{lower-assoc, sound-lower}
 use Rattle.task_check.specs.declared.Walked.{Walked}
@@ -26,7 +26,7 @@ use Rattle.task_check.specs.declared.Walked.the-variants as walked-is
 use Rattle.task_check.specs.declared.ExprParts.{ExprParts}
 use Rattle.task_check.specs.declared.ExprParts.the-variants as expr-parts
 use Rattle.task_check.specs.Walk.{walked, after, exprParts, applied, quantified}
-use Rattle.task_check.proofs.Rows.{after-sound, after-after, Fold, Nexts, next-is, refused-is, row-step, row-stop, row-all}
+use Rattle.task_check.proofs.Rows.{after-sound, after-after, Fold, next-is, refused-is, row-step, row-stop, row-all}
 
 pub exprs-fold : Fold Exprs.none Exprs.more (exprFault false) exprsFault
 unfolding exprFault exprsFault

@@ -2,7 +2,7 @@
 use mathlib.Core.Path.{_≡_, refl, sym, ap, _∙_}
 use mathlib.Core.Bool.{Bool, true, false}
 use mathlib.Core.List.{List, [], _∷_}
-use Prim.Native.Nat.{ℕ, zero, suc, _-_, _≤_, _<_}
+use Prim.Native.Nat.{ℕ, zero, suc, _-_}
 use native.Mathlib.Numerals.{sub-one}
 use native.Mathlib.Omega.{arith}
 use types.Run.{OneOf, miss}
@@ -16,9 +16,9 @@ use Rattle.task.specs.declared.PredNode.{PredNode}
 use Rattle.task.specs.declared.PredNode.the-variants as pred-node
 use Rattle.task.specs.declared.ExprNode.{ExprNode}
 use Rattle.task.specs.declared.ExprNode.the-variants as expr-node
-use Rattle.task.specs.Ast.{Constant, Expr, Exprs, Pred}
+use Rattle.task.specs.Ast.{Expr, Exprs, Pred}
 use Rattle.task.specs.Decode.{Res, got, refuse, bind, Decoder, many, counted, given, binder, decExpr, decPred}
-use Rattle.task.specs.Fault.{lower, nameFault, exprFault, exprsFault, predFault}
+use Rattle.task.specs.Fault.{nameFault, exprFault, exprsFault, predFault}
 use Rattle.task.specs.Task.{isTrue, literallyTrue}
 use Rattle.task.specs.Node.{bytesOf, exprOf, ExprAt, predOf, PredAt}
 use Rattle.task.proofs.Judging.{sound-lower}

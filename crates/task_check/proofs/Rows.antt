@@ -1,17 +1,27 @@
 -- Walking pieces in a row adds up to the walk of the whole: laws over the decoder of one piece and the faults.
 use mathlib.Core.Path.{_≡_, refl, sym, ap, _∙_}
 use mathlib.Core.List.{List}
-use Prim.Native.Nat.{ℕ, zero, suc, _+_, _-_, _<_, _≤_}
-use native.Mathlib.Numerals.{sub-one}
+use Prim.Native.Nat.{ℕ, suc, _-_, _<_, _≤_}
 use native.Mathlib.Omega.{arith}
 use Rattle.task.specs.declared.Fault.{Fault}
 use Rattle.task.specs.declared.Fault.the-variants.{Sound}
 use Rattle.task.specs.Decode.{Res, got, refuse, bind, Decoder, give, _▹_, many}
-use Rattle.task.specs.Fault.{lower}
+use borrow.Author.Tests.{le-leb, lt-leb}
+use Rattle.task.specs.Fault.{rank, lower}
 use Rattle.task.proofs.Judging.{lower-sound, sound-lower, lower-assoc}
 use Rattle.task_check.specs.declared.Walked.{Walked}
 use Rattle.task_check.specs.declared.Walked.the-variants as walked-is
 use Rattle.task_check.specs.Walk.{walked, after}
+
+-- of two faults the one of lower rank
+module _ (f g : Fault) (a b : ℕ) (e : a ≡ rank f) (e' : b ≡ rank g) where
+  pub lower-first : a ≤ b → f ≡ lower f g
+  unfolding lower
+  lower-first h = rw (← e, ← e', le-leb _ _ h)
+
+  pub lower-second : b < a → g ≡ lower f g
+  unfolding lower
+  lower-second h = rw (← e, ← e', lt-leb _ _ h)
 
 pub after-sound : (w : Walked) → after Sound w ≡ w
 after-sound (walked-is.Next p f) = ap (walked-is.Next p) (sound-lower f)

@@ -1,9 +1,6 @@
 // Walks over the pieces of a task: where each ends, and what is at fault in it. A walker reads any bytes at any position.
-use task::BinOp;
-use task::ConstraintNode;
 use task::ExprNode;
 use task::Fault;
-use task::FlagRead;
 use task::Number;
 use task::PredNode;
 use task::SortNode;
@@ -11,8 +8,7 @@ use task::Span;
 use task::SpanRead;
 use task::ThyFunc;
 ghost use mathlib.Core.Path.{_≡_};
-ghost use Prim.Native.Nat.{_+_, _<_, _≤_};
-ghost use lib.ListN.{length};
+ghost use Prim.Native.Nat.{_+_, _<_};
 ghost use mathlib.Core.Bool.{true, false};
 ghost use mathlib.Core.List.{[], _∷_};
 ghost use Rattle.smtlib.specs.Lexicon.{all};

@@ -1,5 +1,4 @@
 -- is_named compares the name, if one stands there.
-use mathlib.Core.Path.{_∙_}
 use Rattle.constraint_check.proofs.Names.{named-none, named-one}
 use borrow.Author.Needs.{needs}
 use Rattle.constraint_check.proofs.is_named.Statement.{statement}

@@ -1,7 +1,5 @@
 -- number_at gives the number, or refuses where its bytes pass the end.
-use Prim.Native.Nat.{_+_, _<_, _≤_}
 use native.Mathlib.Omega.{arith}
-use lib.ListN.{length}
 use Rattle.task.proofs.Reading.{number-short}
 use Rattle.task.proofs.Numbers.{Taken, taken-start, taken-room, taken-step, taken-end}
 use borrow.Author.Needs.{needs}

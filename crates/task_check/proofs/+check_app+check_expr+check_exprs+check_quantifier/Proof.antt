@@ -1,5 +1,4 @@
 -- The expression walkers walk as the decoder decodes: the levels left fall from an expression to those in it.
-use native.Mathlib.Omega.{arith}
 use Prim.Native.Nat.{_+_, _*_}
 use mathlib.Core.Path.{_≡_}
 use Rattle.task.specs.Ast.{Exprs}

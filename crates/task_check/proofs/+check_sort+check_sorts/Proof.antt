@@ -1,5 +1,4 @@
 -- check_sort and check_sorts walk as the decoder decodes: the levels left fall from a sort to the sorts in it.
-use native.Mathlib.Omega.{arith}
 use Prim.Native.Nat.{_+_, _*_}
 use mathlib.Core.Path.{_≡_}
 use Rattle.task.specs.Ast.{Sorts}

@@ -1,8 +1,5 @@
 -- lower compares the ranks.
-use mathlib.Core.Path.{_≡_}
-use Prim.Native.Nat.{_≤_, _<_}
-use borrow.Author.Tests.{le-leb, lt-leb}
-use Rattle.task.specs.Fault.{rank, lower}
+use Rattle.task_check.proofs.Rows.{lower-first, lower-second}
 use borrow.Author.Needs.{needs}
 use Rattle.task_check.proofs.lower.Statement.{statement}
 use Rattle.task_check.proofs.lower.Tie as tie
@@ -14,12 +11,10 @@ rank-requires-2 : tie.Need-rank-requires-2
 rank-requires-2 c κs = search needs
 
 returns : tie.Need-returns
-unfolding lower
-returns c = rw (← c .before .before .rank .ensures, ← c .before .rank2 .ensures, le-leb _ _ (c .if1 .taken))
+returns c = search lower-first
 
 returns-2 : tie.Need-returns-2
-unfolding lower
-returns-2 c = rw (← c .before .before .rank .ensures, ← c .before .rank2 .ensures, lt-leb _ _ (c .if1 .left))
+returns-2 c = search lower-second
 
 pub lower-spec : {M : Type 1} → statement M
 lower-spec = tie.close (tie.spec rank-requires rank-requires-2 returns returns-2)

@@ -1,7 +1,5 @@
 -- name_fault tests whether the name is a symbol.
-use mathlib.Core.Path.{_≡_, sym, _∙_, ap}
-use Rattle.smtlib.specs.Lexicon.{isSymbol}
-use Rattle.task.specs.Fault.{nameFault, unless}
+use Rattle.task.specs.Fault.{nameFault}
 use borrow.Author.Needs.{needs}
 use Rattle.task_check.proofs.name_fault.Statement.{statement}
 use Rattle.task_check.proofs.name_fault.Tie as tie
