@@ -4,3 +4,4 @@ pub mod Covering
 pub mod Pieces
 pub mod Judging
 pub mod Items
+pub mod Examples
