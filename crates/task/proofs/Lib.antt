@@ -1,5 +1,6 @@
 pub mod Reading
 pub mod Numbers
+pub mod Forms
 pub mod Covering
 pub mod Pieces
 pub mod Judging

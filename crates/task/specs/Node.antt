@@ -1,6 +1,6 @@
 -- What the code's answers stand for: the decoder's answer that each of them is. Only contracts of inner functions speak of them.
 use Prim.Native.Nat.{ℕ, _+_, _*_, _^_}
-use mathlib.Core.Bool.{Bool}
+use mathlib.Core.Bool.{Bool, true, false}
 use mathlib.Core.List.{List, [], _∷_}
 use mathlib.Core.Path.{_≡_}
 use lib.ListN.{take, drop, getD}
@@ -25,6 +25,10 @@ use Rattle.task.specs.declared.ThyRead.the-variants as thy-is
 use Rattle.task.specs.declared.Quantifier.{Quantifier}
 use Rattle.task.specs.declared.QuantifierRead.{QuantifierRead}
 use Rattle.task.specs.declared.QuantifierRead.the-variants as quantifier-is
+use Rattle.task.specs.declared.NumberedSort.{NumberedSort}
+use Rattle.task.specs.declared.NumberedSort.the-variants as numbered
+use Rattle.task.specs.declared.NamedExpr.{NamedExpr}
+use Rattle.task.specs.declared.NamedExpr.the-variants as named
 use Rattle.task.specs.declared.SortNode.{SortNode}
 use Rattle.task.specs.declared.SortNode.the-variants as sort-node
 use Rattle.task.specs.declared.ExprNode.{ExprNode}
@@ -95,6 +99,38 @@ sortOf s sort (sort-node.Set n p) = (many Sorts.none Sorts.more sort n ▹ λ bs
 sortOf s sort (sort-node.Map n p) = (many Sorts.none Sorts.more sort n ▹ λ bs. give (Sort.app SortCtor.map bs)) s p
 sortOf s sort (sort-node.Data x n p) = (many Sorts.none Sorts.more sort n ▹ λ bs. give (Sort.app (SortCtor.named (bytesOf s x)) bs)) s p
 sortOf s sort sort-node.Refused = refuse 2
+
+-- the codes of the sorts that have a number behind them
+abbrev pub sortCode : NumberedSort → ℕ
+sortCode numbered.BvSize = 5
+sortCode numbered.Var = 6
+sortCode numbered.Abs = 8
+sortCode numbered.Set = 9
+sortCode numbered.Map = 10
+
+-- how many bytes the number has
+abbrev pub sortWidth : NumberedSort → ℕ
+sortWidth numbered.BvSize = 4
+sortWidth numbered.Var = 2
+sortWidth numbered.Abs = 2
+sortWidth numbered.Set = 2
+sortWidth numbered.Map = 2
+
+-- the codes of the expressions that have a name behind them
+abbrev pub namedCode : NamedExpr → ℕ
+namedCode named.Var = 5
+namedCode named.Let = 16
+namedCode named.IsCtor = 19
+
+-- the codes of And and Or
+abbrev pub connectiveCode : Bool → ℕ
+connectiveCode false = 13
+connectiveCode true = 14
+
+-- the codes of Boolean and App
+abbrev pub flaggedCode : Bool → ℕ
+flaggedCode false = 1
+flaggedCode true = 17
 
 -- the node is what stands behind code k
 unfoldable pub SortForm : ℕ → List ℕ → ℕ → SortNode → Type 0

@@ -2,7 +2,7 @@
 ghost use mathlib.Core.Path.{_≡_};
 ghost use Prim.Native.Nat.{_<_, _≤_};
 ghost use Rattle.task.specs.Decode.{raw, number, name, text, flag, coded, binOps, binRels, thyFuncs, extends, quantifiers};
-ghost use Rattle.task.specs.Node.{numberOf, halvesOf, bytesOf, spanOf, flagOf, binOpOf, binRelOf, thyFuncOf, quantifierOf, SortForm, SortAt, ExprForm, ExprAt, PredForm, PredAt, ConstraintForm, ConstraintAt};
+ghost use Rattle.task.specs.Node.{numberOf, halvesOf, bytesOf, spanOf, flagOf, binOpOf, binRelOf, thyFuncOf, quantifierOf, sortCode, sortWidth, namedCode, connectiveCode, flaggedCode, SortForm, SortAt, ExprForm, ExprAt, PredForm, PredAt, ConstraintForm, ConstraintAt};
 
 // The theory functions, in the source's order of declaration; a function's place is its code.
 pub enum ThyFunc {
@@ -129,6 +129,22 @@ pub enum SortNode {
     Map(u64, usize),
     Data(Span, u64, usize),
     Refused,
+}
+
+// The sorts that have a number behind their code: a width, a variable's number, a number of variables, or a count.
+pub enum NumberedSort {
+    BvSize,
+    Var,
+    Abs,
+    Set,
+    Map,
+}
+
+// The expressions that have a name behind their code.
+pub enum NamedExpr {
+    Var,
+    Let,
+    IsCtor,
 }
 
 pub enum FlagRead {
@@ -422,59 +438,34 @@ pub fn read_thy_func(s: &[u8], at: usize) -> ThyRead
     }
 }
 
-// Behind code 5 of a sort: a width.
-fn bv_size_node(s: &[u8], at: usize) -> SortNode
-    ensures { λ r. ⌜ SortForm 5 (now (s .entry)) at r ⌝ }
+// A sort's node that has a number behind its code.
+fn numbered_sort(s: &[u8], at: usize, kind: NumberedSort) -> SortNode
+    ensures { λ r. ⌜ SortForm (sortCode kind) (now (s .entry)) at r ⌝ }
 {
-    let number = number_at(s, at, 4);
+    let number = number_at(s, at, sort_width(kind));
     let Number::Value(n, p) = number else {
         return SortNode::Refused;
     };
-    SortNode::BvSize(n, p)
+    match kind {
+        NumberedSort::BvSize => SortNode::BvSize(n, p),
+        NumberedSort::Var => SortNode::Var(n, p),
+        NumberedSort::Abs => SortNode::Abs(n, p),
+        NumberedSort::Set => SortNode::Set(n, p),
+        NumberedSort::Map => SortNode::Map(n, p),
+    }
 }
 
-// Behind code 6 of a sort: the variable's number.
-fn var_sort_node(s: &[u8], at: usize) -> SortNode
-    ensures { λ r. ⌜ SortForm 6 (now (s .entry)) at r ⌝ }
+// How many bytes the number has.
+fn sort_width(kind: NumberedSort) -> usize
+    ensures { λ r. ⌜ (r ≡ sortWidth kind) × (r ≤ 8) ⌝ }
 {
-    let number = number_at(s, at, 2);
-    let Number::Value(n, p) = number else {
-        return SortNode::Refused;
-    };
-    SortNode::Var(n, p)
-}
-
-// Behind code 8 of a sort: the number of bound variables.
-fn abs_node(s: &[u8], at: usize) -> SortNode
-    ensures { λ r. ⌜ SortForm 8 (now (s .entry)) at r ⌝ }
-{
-    let number = number_at(s, at, 2);
-    let Number::Value(n, p) = number else {
-        return SortNode::Refused;
-    };
-    SortNode::Abs(n, p)
-}
-
-// Behind code 9 of a sort: a count.
-fn set_node(s: &[u8], at: usize) -> SortNode
-    ensures { λ r. ⌜ SortForm 9 (now (s .entry)) at r ⌝ }
-{
-    let number = number_at(s, at, 2);
-    let Number::Value(n, p) = number else {
-        return SortNode::Refused;
-    };
-    SortNode::Set(n, p)
-}
-
-// Behind code 10 of a sort: a count.
-fn map_node(s: &[u8], at: usize) -> SortNode
-    ensures { λ r. ⌜ SortForm 10 (now (s .entry)) at r ⌝ }
-{
-    let number = number_at(s, at, 2);
-    let Number::Value(n, p) = number else {
-        return SortNode::Refused;
-    };
-    SortNode::Map(n, p)
+    match kind {
+        NumberedSort::BvSize => 4,
+        NumberedSort::Var => 2,
+        NumberedSort::Abs => 2,
+        NumberedSort::Set => 2,
+        NumberedSort::Map => 2,
+    }
 }
 
 // Behind code 11 of a sort: a name and a count.
@@ -507,12 +498,12 @@ pub fn read_sort_node(s: &[u8], at: usize) -> SortNode
         2 => SortNode::Real(p),
         3 => SortNode::Str(p),
         4 => SortNode::BitVec(p),
-        5 => bv_size_node(s, p),
-        6 => var_sort_node(s, p),
+        5 => numbered_sort(s, p, NumberedSort::BvSize),
+        6 => numbered_sort(s, p, NumberedSort::Var),
         7 => SortNode::Func(p),
-        8 => abs_node(s, p),
-        9 => set_node(s, p),
-        10 => map_node(s, p),
+        8 => numbered_sort(s, p, NumberedSort::Abs),
+        9 => numbered_sort(s, p, NumberedSort::Set),
+        10 => numbered_sort(s, p, NumberedSort::Map),
         11 => data_node(s, p),
         12..=255 => SortNode::Refused,
     }
@@ -534,25 +525,46 @@ pub fn read_quantifier(s: &[u8], at: usize) -> QuantifierRead
     }
 }
 
-// Behind code 0 of an expression: 16 bytes.
-fn numeral_node(s: &[u8], at: usize) -> ExprNode
-    ensures { λ r. ⌜ ExprForm 0 (now (s .entry)) at r ⌝ }
+// An expression's node that has a name behind its code.
+fn named_expr(s: &[u8], at: usize, kind: NamedExpr) -> ExprNode
+    ensures { λ r. ⌜ ExprForm (namedCode kind) (now (s .entry)) at r ⌝ }
 {
-    let value = halves_at(s, at);
-    let Halves::Value(lo, hi, p) = value else {
+    let name = read_name(s, at);
+    let SpanRead::At(x, p) = name else {
         return ExprNode::Refused;
     };
-    ExprNode::Numeral(lo, hi, p)
+    match kind {
+        NamedExpr::Var => ExprNode::Var(x, p),
+        NamedExpr::Let => ExprNode::Let(x, p),
+        NamedExpr::IsCtor => ExprNode::IsCtor(x, p),
+    }
 }
 
-// Behind code 1: a flag.
-fn boolean_node(s: &[u8], at: usize) -> ExprNode
-    ensures { λ r. ⌜ ExprForm 1 (now (s .entry)) at r ⌝ }
+// A connective, which has a count behind its code.
+fn counted_expr(s: &[u8], at: usize, or: bool) -> ExprNode
+    ensures { λ r. ⌜ ExprForm (connectiveCode or) (now (s .entry)) at r ⌝ }
+{
+    let count = number_at(s, at, 2);
+    let Number::Value(n, p) = count else {
+        return ExprNode::Refused;
+    };
+    if or {
+        return ExprNode::Or(n, p);
+    }
+    ExprNode::And(n, p)
+}
+
+// A Boolean, or an application, which tells by a flag whether an output sort follows.
+fn flagged_expr(s: &[u8], at: usize, app: bool) -> ExprNode
+    ensures { λ r. ⌜ ExprForm (flaggedCode app) (now (s .entry)) at r ⌝ }
 {
     let flag = read_flag(s, at);
     let FlagRead::Flag(b, p) = flag else {
         return ExprNode::Refused;
     };
+    if app {
+        return ExprNode::App(b, p);
+    }
     ExprNode::Boolean(b, p)
 }
 
@@ -565,6 +577,17 @@ fn real_node(s: &[u8], at: usize) -> ExprNode
         return ExprNode::Refused;
     };
     ExprNode::Real(n, p)
+}
+
+// Behind code 0 of an expression: 16 bytes.
+fn numeral_node(s: &[u8], at: usize) -> ExprNode
+    ensures { λ r. ⌜ ExprForm 0 (now (s .entry)) at r ⌝ }
+{
+    let value = halves_at(s, at);
+    let Halves::Value(lo, hi, p) = value else {
+        return ExprNode::Refused;
+    };
+    ExprNode::Numeral(lo, hi, p)
 }
 
 // Behind code 3: a text.
@@ -593,17 +616,6 @@ fn bit_vec_node(s: &[u8], at: usize) -> ExprNode
     ExprNode::BitVec(lo, hi, w, q)
 }
 
-// Behind code 5: a name.
-fn var_node(s: &[u8], at: usize) -> ExprNode
-    ensures { λ r. ⌜ ExprForm 5 (now (s .entry)) at r ⌝ }
-{
-    let name = read_name(s, at);
-    let SpanRead::At(x, p) = name else {
-        return ExprNode::Refused;
-    };
-    ExprNode::Var(x, p)
-}
-
 // Behind code 9: the operation's code.
 fn binary_op_node(s: &[u8], at: usize) -> ExprNode
     ensures { λ r. ⌜ ExprForm 9 (now (s .entry)) at r ⌝ }
@@ -626,50 +638,6 @@ fn atom_node(s: &[u8], at: usize) -> ExprNode
     ExprNode::Atom(o, p)
 }
 
-// Behind code 13: a count.
-fn and_node(s: &[u8], at: usize) -> ExprNode
-    ensures { λ r. ⌜ ExprForm 13 (now (s .entry)) at r ⌝ }
-{
-    let number = number_at(s, at, 2);
-    let Number::Value(n, p) = number else {
-        return ExprNode::Refused;
-    };
-    ExprNode::And(n, p)
-}
-
-// Behind code 14: a count.
-fn or_node(s: &[u8], at: usize) -> ExprNode
-    ensures { λ r. ⌜ ExprForm 14 (now (s .entry)) at r ⌝ }
-{
-    let number = number_at(s, at, 2);
-    let Number::Value(n, p) = number else {
-        return ExprNode::Refused;
-    };
-    ExprNode::Or(n, p)
-}
-
-// Behind code 16: a name.
-fn let_node(s: &[u8], at: usize) -> ExprNode
-    ensures { λ r. ⌜ ExprForm 16 (now (s .entry)) at r ⌝ }
-{
-    let name = read_name(s, at);
-    let SpanRead::At(x, p) = name else {
-        return ExprNode::Refused;
-    };
-    ExprNode::Let(x, p)
-}
-
-// Behind code 17: whether an output sort follows.
-fn app_node(s: &[u8], at: usize) -> ExprNode
-    ensures { λ r. ⌜ ExprForm 17 (now (s .entry)) at r ⌝ }
-{
-    let flag = read_flag(s, at);
-    let FlagRead::Flag(b, p) = flag else {
-        return ExprNode::Refused;
-    };
-    ExprNode::App(b, p)
-}
-
 // Behind code 18: the function's code.
 fn thy_func_node(s: &[u8], at: usize) -> ExprNode
     ensures { λ r. ⌜ ExprForm 18 (now (s .entry)) at r ⌝ }
@@ -679,17 +647,6 @@ fn thy_func_node(s: &[u8], at: usize) -> ExprNode
         return ExprNode::Refused;
     };
     ExprNode::ThyFunc(f, p)
-}
-
-// Behind code 19: a name.
-fn is_ctor_node(s: &[u8], at: usize) -> ExprNode
-    ensures { λ r. ⌜ ExprForm 19 (now (s .entry)) at r ⌝ }
-{
-    let name = read_name(s, at);
-    let SpanRead::At(x, p) = name else {
-        return ExprNode::Refused;
-    };
-    ExprNode::IsCtor(x, p)
 }
 
 // Behind code 20: which quantifier, and a count.
@@ -718,11 +675,11 @@ pub fn read_expr_node(s: &[u8], at: usize) -> ExprNode
     let p = at + 1;
     match code {
         0 => numeral_node(s, p),
-        1 => boolean_node(s, p),
+        1 => flagged_expr(s, p, false),
         2 => real_node(s, p),
         3 => string_node(s, p),
         4 => bit_vec_node(s, p),
-        5 => var_node(s, p),
+        5 => named_expr(s, p, NamedExpr::Var),
         6 => ExprNode::WKVar(p),
         7 => ExprNode::Neg(p),
         8 => ExprNode::Not(p),
@@ -730,13 +687,13 @@ pub fn read_expr_node(s: &[u8], at: usize) -> ExprNode
         10 => atom_node(s, p),
         11 => ExprNode::Imp(p),
         12 => ExprNode::Iff(p),
-        13 => and_node(s, p),
-        14 => or_node(s, p),
+        13 => counted_expr(s, p, false),
+        14 => counted_expr(s, p, true),
         15 => ExprNode::IfThenElse(p),
-        16 => let_node(s, p),
-        17 => app_node(s, p),
+        16 => named_expr(s, p, NamedExpr::Let),
+        17 => flagged_expr(s, p, true),
         18 => thy_func_node(s, p),
-        19 => is_ctor_node(s, p),
+        19 => named_expr(s, p, NamedExpr::IsCtor),
         20 => quantifier_node(s, p),
         21..=255 => ExprNode::Refused,
     }

@@ -20,8 +20,8 @@ add-p c = search needs
 numeral-node-requires : tie.Need-numeral-node-requires
 numeral-node-requires c κs = search needs
 
-boolean-node-requires : tie.Need-boolean-node-requires
-boolean-node-requires c κs = search needs
+flagged-expr-requires : tie.Need-flagged-expr-requires
+flagged-expr-requires c κs = search needs
 
 real-node-requires : tie.Need-real-node-requires
 real-node-requires c κs = search needs
@@ -32,8 +32,8 @@ string-node-requires c κs = search needs
 bit-vec-node-requires : tie.Need-bit-vec-node-requires
 bit-vec-node-requires c κs = search needs
 
-var-node-requires : tie.Need-var-node-requires
-var-node-requires c κs = search needs
+named-expr-requires : tie.Need-named-expr-requires
+named-expr-requires c κs = search needs
 
 binary-op-node-requires : tie.Need-binary-op-node-requires
 binary-op-node-requires c κs = search needs
@@ -41,23 +41,23 @@ binary-op-node-requires c κs = search needs
 atom-node-requires : tie.Need-atom-node-requires
 atom-node-requires c κs = search needs
 
-and-node-requires : tie.Need-and-node-requires
-and-node-requires c κs = search needs
+counted-expr-requires : tie.Need-counted-expr-requires
+counted-expr-requires c κs = search needs
 
-or-node-requires : tie.Need-or-node-requires
-or-node-requires c κs = search needs
+counted-expr-requires-2 : tie.Need-counted-expr-requires-2
+counted-expr-requires-2 c κs = search needs
 
-let-node-requires : tie.Need-let-node-requires
-let-node-requires c κs = search needs
+named-expr-requires-2 : tie.Need-named-expr-requires-2
+named-expr-requires-2 c κs = search needs
 
-app-node-requires : tie.Need-app-node-requires
-app-node-requires c κs = search needs
+flagged-expr-requires-2 : tie.Need-flagged-expr-requires-2
+flagged-expr-requires-2 c κs = search needs
 
 thy-func-node-requires : tie.Need-thy-func-node-requires
 thy-func-node-requires c κs = search needs
 
-is-ctor-node-requires : tie.Need-is-ctor-node-requires
-is-ctor-node-requires c κs = search needs
+named-expr-requires-3 : tie.Need-named-expr-requires-3
+named-expr-requires-3 c κs = search needs
 
 quantifier-node-requires : tie.Need-quantifier-node-requires
 quantifier-node-requires c κs = search needs
@@ -68,7 +68,7 @@ returns-2 c = λ l expr. coded-at (exprForms l expr) _ _ 0 (c .before .before .b
 
 returns-3 : tie.Need-returns-3
 unfolding ExprAt ExprForm exprForms exprOf
-returns-3 c = λ l expr. coded-at (exprForms l expr) _ _ 1 (c .before .before .before .if1 .left) (c .before .match .keys2) ∙ c .boolean-node .ensures l expr
+returns-3 c = λ l expr. coded-at (exprForms l expr) _ _ 1 (c .before .before .before .if1 .left) (c .before .match .keys2) ∙ c .flagged-expr .ensures l expr
 
 returns-4 : tie.Need-returns-4
 unfolding ExprAt ExprForm exprForms exprOf
@@ -84,7 +84,7 @@ returns-6 c = λ l expr. coded-at (exprForms l expr) _ _ 4 (c .before .before .b
 
 returns-7 : tie.Need-returns-7
 unfolding ExprAt ExprForm exprForms exprOf
-returns-7 c = λ l expr. coded-at (exprForms l expr) _ _ 5 (c .before .before .before .if1 .left) (c .before .match .keys6) ∙ c .var-node .ensures l expr
+returns-7 c = λ l expr. coded-at (exprForms l expr) _ _ 5 (c .before .before .before .if1 .left) (c .before .match .keys6) ∙ c .named-expr .ensures l expr
 
 returns-8 : tie.Need-returns-8
 unfolding ExprAt ExprForm exprForms exprOf
@@ -116,11 +116,11 @@ returns-14 c = λ l expr. coded-at (exprForms l expr) _ _ 12 (c .before .before 
 
 returns-15 : tie.Need-returns-15
 unfolding ExprAt ExprForm exprForms exprOf
-returns-15 c = λ l expr. coded-at (exprForms l expr) _ _ 13 (c .before .before .before .if1 .left) (c .before .match .keys14) ∙ c .and-node .ensures l expr
+returns-15 c = λ l expr. coded-at (exprForms l expr) _ _ 13 (c .before .before .before .if1 .left) (c .before .match .keys14) ∙ c .counted-expr .ensures l expr
 
 returns-16 : tie.Need-returns-16
 unfolding ExprAt ExprForm exprForms exprOf
-returns-16 c = λ l expr. coded-at (exprForms l expr) _ _ 14 (c .before .before .before .if1 .left) (c .before .match .keys15) ∙ c .or-node .ensures l expr
+returns-16 c = λ l expr. coded-at (exprForms l expr) _ _ 14 (c .before .before .before .if1 .left) (c .before .match .keys15) ∙ c .counted-expr2 .ensures l expr
 
 returns-17 : tie.Need-returns-17
 unfolding ExprAt ExprForm exprForms exprOf
@@ -128,11 +128,11 @@ returns-17 c = λ l expr. coded-at (exprForms l expr) _ _ 15 (c .before .before 
 
 returns-18 : tie.Need-returns-18
 unfolding ExprAt ExprForm exprForms exprOf
-returns-18 c = λ l expr. coded-at (exprForms l expr) _ _ 16 (c .before .before .before .if1 .left) (c .before .match .keys17) ∙ c .let-node .ensures l expr
+returns-18 c = λ l expr. coded-at (exprForms l expr) _ _ 16 (c .before .before .before .if1 .left) (c .before .match .keys17) ∙ c .named-expr2 .ensures l expr
 
 returns-19 : tie.Need-returns-19
 unfolding ExprAt ExprForm exprForms exprOf
-returns-19 c = λ l expr. coded-at (exprForms l expr) _ _ 17 (c .before .before .before .if1 .left) (c .before .match .keys18) ∙ c .app-node .ensures l expr
+returns-19 c = λ l expr. coded-at (exprForms l expr) _ _ 17 (c .before .before .before .if1 .left) (c .before .match .keys18) ∙ c .flagged-expr2 .ensures l expr
 
 returns-20 : tie.Need-returns-20
 unfolding ExprAt ExprForm exprForms exprOf
@@ -140,7 +140,7 @@ returns-20 c = λ l expr. coded-at (exprForms l expr) _ _ 18 (c .before .before 
 
 returns-21 : tie.Need-returns-21
 unfolding ExprAt ExprForm exprForms exprOf
-returns-21 c = λ l expr. coded-at (exprForms l expr) _ _ 19 (c .before .before .before .if1 .left) (c .before .match .keys20) ∙ c .is-ctor-node .ensures l expr
+returns-21 c = λ l expr. coded-at (exprForms l expr) _ _ 19 (c .before .before .before .if1 .left) (c .before .match .keys20) ∙ c .named-expr3 .ensures l expr
 
 returns-22 : tie.Need-returns-22
 unfolding ExprAt ExprForm exprForms exprOf
@@ -158,19 +158,19 @@ read-expr-node-spec =
     shared-slice-read-code
     add-p
     numeral-node-requires
-    boolean-node-requires
+    flagged-expr-requires
     real-node-requires
     string-node-requires
     bit-vec-node-requires
-    var-node-requires
+    named-expr-requires
     binary-op-node-requires
     atom-node-requires
-    and-node-requires
-    or-node-requires
-    let-node-requires
-    app-node-requires
+    counted-expr-requires
+    counted-expr-requires-2
+    named-expr-requires-2
+    flagged-expr-requires-2
     thy-func-node-requires
-    is-ctor-node-requires
+    named-expr-requires-3
     quantifier-node-requires
     returns-2
     returns-3

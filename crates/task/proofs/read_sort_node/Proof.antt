@@ -17,20 +17,20 @@ shared-slice-read-code c = search needs
 add-p : tie.Need-add-p
 add-p c = search needs
 
-bv-size-node-requires : tie.Need-bv-size-node-requires
-bv-size-node-requires c κs = search needs
+numbered-sort-requires : tie.Need-numbered-sort-requires
+numbered-sort-requires c κs = search needs
 
-var-sort-node-requires : tie.Need-var-sort-node-requires
-var-sort-node-requires c κs = search needs
+numbered-sort-requires-2 : tie.Need-numbered-sort-requires-2
+numbered-sort-requires-2 c κs = search needs
 
-abs-node-requires : tie.Need-abs-node-requires
-abs-node-requires c κs = search needs
+numbered-sort-requires-3 : tie.Need-numbered-sort-requires-3
+numbered-sort-requires-3 c κs = search needs
 
-set-node-requires : tie.Need-set-node-requires
-set-node-requires c κs = search needs
+numbered-sort-requires-4 : tie.Need-numbered-sort-requires-4
+numbered-sort-requires-4 c κs = search needs
 
-map-node-requires : tie.Need-map-node-requires
-map-node-requires c κs = search needs
+numbered-sort-requires-5 : tie.Need-numbered-sort-requires-5
+numbered-sort-requires-5 c κs = search needs
 
 data-node-requires : tie.Need-data-node-requires
 data-node-requires c κs = search needs
@@ -57,11 +57,11 @@ returns-6 c = λ sort. coded-at (sortForms sort) _ _ 4 (c .before .before .if1 .
 
 returns-7 : tie.Need-returns-7
 unfolding SortAt SortForm sortForms sortOf
-returns-7 c = λ sort. coded-at (sortForms sort) _ _ 5 (c .before .before .before .if1 .left) (c .before .match .keys6) ∙ c .bv-size-node .ensures sort
+returns-7 c = λ sort. coded-at (sortForms sort) _ _ 5 (c .before .before .before .if1 .left) (c .before .match .keys6) ∙ c .numbered-sort .ensures sort
 
 returns-8 : tie.Need-returns-8
 unfolding SortAt SortForm sortForms sortOf
-returns-8 c = λ sort. coded-at (sortForms sort) _ _ 6 (c .before .before .before .if1 .left) (c .before .match .keys7) ∙ c .var-sort-node .ensures sort
+returns-8 c = λ sort. coded-at (sortForms sort) _ _ 6 (c .before .before .before .if1 .left) (c .before .match .keys7) ∙ c .numbered-sort2 .ensures sort
 
 returns-9 : tie.Need-returns-9
 unfolding SortAt SortForm sortForms sortOf
@@ -69,15 +69,15 @@ returns-9 c = λ sort. coded-at (sortForms sort) _ _ 7 (c .before .before .if1 .
 
 returns-10 : tie.Need-returns-10
 unfolding SortAt SortForm sortForms sortOf
-returns-10 c = λ sort. coded-at (sortForms sort) _ _ 8 (c .before .before .before .if1 .left) (c .before .match .keys9) ∙ c .abs-node .ensures sort
+returns-10 c = λ sort. coded-at (sortForms sort) _ _ 8 (c .before .before .before .if1 .left) (c .before .match .keys9) ∙ c .numbered-sort3 .ensures sort
 
 returns-11 : tie.Need-returns-11
 unfolding SortAt SortForm sortForms sortOf
-returns-11 c = λ sort. coded-at (sortForms sort) _ _ 9 (c .before .before .before .if1 .left) (c .before .match .keys10) ∙ c .set-node .ensures sort
+returns-11 c = λ sort. coded-at (sortForms sort) _ _ 9 (c .before .before .before .if1 .left) (c .before .match .keys10) ∙ c .numbered-sort4 .ensures sort
 
 returns-12 : tie.Need-returns-12
 unfolding SortAt SortForm sortForms sortOf
-returns-12 c = λ sort. coded-at (sortForms sort) _ _ 10 (c .before .before .before .if1 .left) (c .before .match .keys11) ∙ c .map-node .ensures sort
+returns-12 c = λ sort. coded-at (sortForms sort) _ _ 10 (c .before .before .before .if1 .left) (c .before .match .keys11) ∙ c .numbered-sort5 .ensures sort
 
 returns-13 : tie.Need-returns-13
 unfolding SortAt SortForm sortForms sortOf
@@ -94,11 +94,11 @@ read-sort-node-spec =
     returns
     shared-slice-read-code
     add-p
-    bv-size-node-requires
-    var-sort-node-requires
-    abs-node-requires
-    set-node-requires
-    map-node-requires
+    numbered-sort-requires
+    numbered-sort-requires-2
+    numbered-sort-requires-3
+    numbered-sort-requires-4
+    numbered-sort-requires-5
     data-node-requires
     returns-2
     returns-3
