@@ -3,17 +3,13 @@ use Prim.Native.Nat.{ℕ}
 use mathlib.Core.List.{List, [], _∷_}
 use lib.ListN.{take}
 use Rattle.task.specs.Ast.{Constraint}
-use Rattle.task.specs.Decode.{Res, got, refuse, Decoder, give, _▹_, counted, name, decSort, decPred, decConstraint}
+use Rattle.task.specs.Decode.{Decoder, give, _▹_, counted, name, decSort, decPred, decConstraint}
+use Rattle.task_check.specs.Walk.{named}
 use Rattle.constraint_check.specs.declared.Path.{Path}
 
 -- the offsets on a path, the outermost first
 abbrev pub entries : Path → List ℕ
 entries p = take (p .depth) (p .offsets)
-
--- a name, if one stands there, before others
-abbrev pub named : Res (List ℕ) → List (List ℕ) → List (List ℕ)
-named (got x p) xs = x ∷ xs
-named (refuse k) xs = xs
 
 -- the names that stand at offsets: an offset is where a ForAll's name stands, directly behind its code
 abbrev pub namesOn : List ℕ → List ℕ → List (List ℕ)

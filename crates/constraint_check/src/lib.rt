@@ -51,16 +51,16 @@ impl Path {
 }
 
 // Whether a name is that of a ForAll on the path.
-fn is_around(s: &[u8], x: Span, path: Path) -> bool
+fn is_around(s: &[u8], x: &[u8], path: Path) -> bool
     requires { ⌜ path .depth ≤ 256 ⌝ }
-    ensures { λ r. ⌜ r ≡ isOne (bytesOf (now (s .entry)) x) (namesOn (now (s .entry)) (entries path)) ⌝ }
+    ensures { λ r. ⌜ r ≡ isOne (now (x .entry)) (namesOn (now (s .entry)) (entries path)) ⌝ }
 {
     let n = path.depth;
     let offsets = path.offsets;
     let mut i: usize = 0;
     while i < n {
         let at = offsets[i];
-        if is_named(s, at, x) {
+        if task_check::is_named(s, at, x) {
             return true;
         }
         i += 1;
@@ -68,23 +68,12 @@ fn is_around(s: &[u8], x: Span, path: Path) -> bool
     false
 }
 
-// Whether the name at a position is the given one.
-fn is_named(s: &[u8], at: usize, x: Span) -> bool
-    ensures { λ r. ⌜ r ≡ isOne (bytesOf (now (s .entry)) x) (namesOn (now (s .entry)) (at ∷ [])) ⌝ }
-{
-    let other = task::read_name(s, at);
-    let SpanRead::At(y, _) = other else {
-        return false;
-    };
-    smtlib::same_bytes(task::bytes_of(s, x), task::bytes_of(s, y))
-}
-
 // The fault of a ForAll that is named like one around it.
 fn shadow_fault(s: &[u8], x: Span, path: Path) -> Fault
     requires { ⌜ path .depth ≤ 256 ⌝ }
     ensures { λ r. ⌜ r ≡ shadowFault (namesOn (now (s .entry)) (entries path)) (bytesOf (now (s .entry)) x) ⌝ }
 {
-    if is_around(s, x, path) {
+    if is_around(s, task::bytes_of(s, x), path) {
         return Fault::Shadowed;
     }
     Fault::Sound

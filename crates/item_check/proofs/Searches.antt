@@ -24,13 +24,9 @@ use Rattle.task.proofs.Reading.{bind-got, got-refuse}
 use Rattle.task.proofs.Pieces.{each-covers}
 use Rattle.task_check.specs.declared.Walked.{Walked}
 use Rattle.task_check.specs.declared.Walked.the-variants as walked-is
-use Rattle.task_check.specs.Walk.{walked}
+use Rattle.task_check.specs.Walk.{walked, named, namedAt}
 use Rattle.task_check.proofs.Rows.{Nexts, next-is, refused-is}
-use Rattle.item_check.specs.Search.{lead, leading, MeetsAll, datatypesIn, namedAt, Declares, Constructs}
-
-or-false : (a : Bool) → (a || false) ≡ a
-or-false true = refl
-or-false false = refl
+use Rattle.item_check.specs.Search.{lead, leading, MeetsAll, datatypesIn, Declares, Constructs}
 
 or-assoc : (a b c : Bool) → (a || b || c) ≡ (a || (b || c))
 or-assoc true b c = refl
@@ -41,14 +37,6 @@ pub one-append : (x : List ℕ) (xs ys : List (List ℕ)) → isOne x (xs ++ ys)
 one-append x [] ys = refl
 one-append x (z ∷ xs) ys = ap (λ (b : Bool). same x z || b) (one-append x xs ys) ∙ sym (or-assoc (same x z) (isOne x xs) (isOne x ys))
 
--- one name
-module _ (s w : List ℕ) (at : ℕ) (r : SpanRead) where
-  pub named-none : name s at ≡ spanOf s r → r ≡ span-is.Refused → false ≡ isOne w (namedAt s at)
-  named-none e e' = rw (e, e')
-
-  pub named-one : (y : Span) (p : ℕ) (v : Bool) → name s at ≡ spanOf s r → r ≡ span-is.At y p → v ≡ same w (bytesOf s y) → v ≡ isOne w (namedAt s at)
-  named-one y p v e e' u = rw (e, e') (u ∙ sym (or-false (same w (bytesOf s y))))
-
 same-got : {A C : Type 0} (f : A → C) {a b : A} {p q : ℕ} → got a p ≡ got b q → f a ≡ f b
 same-got f e = ap f (cc)
 
@@ -57,14 +45,14 @@ ctor-name : (s : List ℕ) (at : ℕ) (c : DataCtor) (q : ℕ) → dataCtor s at
 ctor-name s at c q e =
     let x = bind-got (name s at) (λ n p. bind (counted [] _∷_ (binder deepest) s p) (λ fs r. got (record { name = n; fields = fs }) r)) c q e in
     let y = bind-got (counted [] _∷_ (binder deepest) s (x .next)) (λ fs r. got (record { name = x .value; fields = fs }) r) c q (x .then) in
-    ap (λ (z : Res (List ℕ)). lead z (λ p. [])) (x .first) ∙ ap (λ (n : List ℕ). n ∷ []) (same-got (λ (d : DataCtor). d .name) (y .then))
+    ap (λ (z : Res (List ℕ)). named z []) (x .first) ∙ ap (λ (n : List ℕ). n ∷ []) (same-got (λ (d : DataCtor). d .name) (y .then))
 
 datatype-name : (s : List ℕ) (at : ℕ) (d : DataDecl) (q : ℕ) → datatype s at ≡ got d q → namedAt s at ≡ d .name ∷ []
 datatype-name s at d q e =
     let x = bind-got (name s at) (λ n p. bind (number 2 s p) (λ vars r. bind (counted [] _∷_ dataCtor s r) (λ cs t. got (record { name = n; vars = vars; ctors = cs }) t))) d q e in
     let y = bind-got (number 2 s (x .next)) (λ vars r. bind (counted [] _∷_ dataCtor s r) (λ cs t. got (record { name = x .value; vars = vars; ctors = cs }) t)) d q (x .then) in
     let z = bind-got (counted [] _∷_ dataCtor s (y .next)) (λ cs t. got (record { name = x .value; vars = y .value; ctors = cs }) t) d q (y .then) in
-    ap (λ (w : Res (List ℕ)). lead w (λ p. [])) (x .first) ∙ ap (λ (n : List ℕ). n ∷ []) (same-got (λ (w : DataDecl). w .name) (z .then))
+    ap (λ (w : Res (List ℕ)). named w []) (x .first) ∙ ap (λ (n : List ℕ). n ∷ []) (same-got (λ (w : DataDecl). w .name) (z .then))
 
 -- the first of constructors in a row
 record First (s : List ℕ) (left p : ℕ) (rest : List DataCtor) (q : ℕ) : Type 0 where
@@ -139,15 +127,15 @@ module _ (s x : List ℕ) (n at : ℕ) where
         got-refuse (sym (f .first) ∙ refused-is dataCtorFault (dataCtor s p) k (sym e' ∙ e))
 
     module _ (b : Bool) (u : b ≡ isOne x (namedAt s p)) where
-      named : (c : DataCtor) (t : ℕ) → dataCtor s p ≡ got c t → b ≡ (same x (c .name) || false)
-      named c t h = u ∙ ap (isOne x) (ctor-name s p c t h)
+      own-name : (c : DataCtor) (t : ℕ) → dataCtor s p ≡ got c t → b ≡ (same x (c .name) || false)
+      own-name c t h = u ∙ ap (isOne x) (ctor-name s p c t h)
 
       pub seeking-found : b ≡ true → Constructs x n s at true
       unfolding Constructs
       seeking-found u' = λ cs q h.
           let r = i .seek cs q h in
           let f = first-of s left p (r .rest) q z (r .is) in
-          by-first x (f .ctor .name) b (isOne x (ctorNames (f .others))) (named (f .ctor) (f .next) (f .first)) u'
+          by-first x (f .ctor .name) b (isOne x (ctorNames (f .others))) (own-name (f .ctor) (f .next) (f .first)) u'
           ∙ ap (λ (ds : List DataCtor). isOne x (ctorNames ds)) (f .are) ∙ r .tells
 
       pub seeking-goes : (t : ℕ) (g : Fault) → v ≡ walked-is.Next t g → b ≡ false → Seeking (left - 1) t
@@ -160,7 +148,7 @@ module _ (s x : List ℕ) (n at : ℕ) where
             record {
               rest = f .others;
               is = ap (λ (k : ℕ). many [] _∷_ dataCtor (left - 1) s k) (sym w) ∙ f .then;
-              tells = sym (by-others x (f .ctor .name) b (isOne x (ctorNames (f .others))) (named (f .ctor) (f .next) (f .first)) u')
+              tells = sym (by-others x (f .ctor .name) b (isOne x (ctorNames (f .others))) (own-name (f .ctor) (f .next) (f .first)) u')
                   ∙ ap (λ (ds : List DataCtor). isOne x (ctorNames ds)) (f .are) ∙ r .tells;
             };
       }

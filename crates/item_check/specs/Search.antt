@@ -28,10 +28,6 @@ pub record MeetsAll : Type 1 where
 abbrev pub datatypesIn : List ℕ → ℕ → List DataDecl
 datatypesIn s at = leading (length s) datatype s at
 
--- the name that stands at a position, if there is one
-abbrev pub namedAt : List ℕ → ℕ → List (List ℕ)
-namedAt s at = lead (name s at) (λ p. [])
-
 -- where a datatype was decoded, the answer tells whether it declares the name
 unfoldable pub Declares : List ℕ → Bool → List ℕ → ℕ → Bool → Type 0
 Declares x ctors s at r = (d : DataDecl) (q : ℕ) → datatype s at ≡ got d q → r ≡ isOne x (declared ctors d)

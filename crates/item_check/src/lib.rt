@@ -14,7 +14,7 @@ ghost use Rattle.task.specs.Fault.{isOne, each, nameFault, commentFault, dataCt
 ghost use Rattle.task.specs.Task.{declaredBy, isDatatype, isCtor};
 ghost use Rattle.task_check.specs.Walk.{walked};
 ghost use Rattle.item_check.specs.Items.{itemWalk, signature, signatureFault};
-ghost use Rattle.item_check.specs.Search.{namedAt, Constructs, Declares, datatypesIn};
+ghost use Rattle.item_check.specs.Search.{Constructs, Declares, datatypesIn};
 
 // What a section holds.
 pub enum Section {
@@ -238,17 +238,6 @@ pub fn check_item(s: &[u8], at: usize, section: Section) -> Walked
     }
 }
 
-// Whether the name at a position is the given one.
-fn is_named(s: &[u8], at: usize, x: &[u8]) -> bool
-    ensures { λ r. ⌜ r ≡ isOne (now (x .entry)) (namedAt (now (s .entry)) at) ⌝ }
-{
-    let name = task::read_name(s, at);
-    let SpanRead::At(y, _) = name else {
-        return false;
-    };
-    smtlib::same_bytes(x, task::bytes_of(s, y))
-}
-
 // Whether one of n constructors has the name.
 fn is_constructed(s: &[u8], at: usize, n: u64, x: &[u8]) -> bool
     ensures { λ r. ⌜ Constructs (now (x .entry)) n (now (s .entry)) at r ⌝ }
@@ -260,7 +249,7 @@ fn is_constructed(s: &[u8], at: usize, n: u64, x: &[u8]) -> bool
         let Walked::Next(q, _) = one else {
             return false;
         };
-        if is_named(s, p, x) {
+        if task_check::is_named(s, p, x) {
             return true;
         }
         p = q;
@@ -295,7 +284,7 @@ fn declares(s: &[u8], at: usize, x: &[u8], ctors: bool) -> bool
     if ctors {
         return has_ctor(s, at, x);
     }
-    is_named(s, at, x)
+    task_check::is_named(s, at, x)
 }
 
 // Whether a datatype of the section declares the name.

@@ -4,3 +4,4 @@ pub mod Sorts
 pub mod ByName
 pub mod Exprs
 pub mod Preds
+pub mod Names

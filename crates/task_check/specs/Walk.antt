@@ -5,7 +5,7 @@ use mathlib.Core.List.{List, [], _∷_}
 use Rattle.task.specs.declared.Fault.{Fault}
 use Rattle.task.specs.declared.Quantifier.the-variants.{Forall}
 use Rattle.task.specs.Ast.{Expr, Exprs, Pred}
-use Rattle.task.specs.Decode.{Res, got, refuse, Decoder, give, _▹_, many, counted, binder, given, decExpr}
+use Rattle.task.specs.Decode.{Res, got, refuse, Decoder, give, _▹_, many, counted, name, binder, given, decExpr}
 use Rattle.task.specs.Fault.{lower, nameFault, stringFault, widthFault, thyFuncFault}
 use Rattle.task.specs.Task.{literallyTrue}
 use Rattle.task.specs.Node.{bytesOf}
@@ -84,3 +84,12 @@ quantified l n = many [] _∷_ (binder l) n ▹ λ bs. decExpr l ▹ λ e. give 
 abbrev pub readTrue : Res Pred → Bool
 readTrue (got p q) = literallyTrue p
 readTrue (refuse k) = false
+
+-- a name, if one was decoded, before others
+abbrev pub named : Res (List ℕ) → List (List ℕ) → List (List ℕ)
+named (got x p) xs = x ∷ xs
+named (refuse k) xs = xs
+
+-- the name that stands at a position, if there is one
+abbrev pub namedAt : List ℕ → ℕ → List (List ℕ)
+namedAt s at = named (name s at) []

@@ -14,9 +14,9 @@ ghost use mathlib.Core.List.{[], _∷_};
 ghost use Rattle.smtlib.specs.Lexicon.{all};
 ghost use Rattle.task.specs.Ast.{Sorts, Exprs};
 ghost use Rattle.task.specs.Decode.{many, name, binder, given, decSort, decExpr, decPred};
-ghost use Rattle.task.specs.Fault.{rank as rankOf, lower as lowerOf, each, nameFault, shown, textFault, widthFault, sortFault, sortsFault, binderFault, needsSort, thyFuncFault, givenFault, exprFault, exprsFault, predFault};
+ghost use Rattle.task.specs.Fault.{rank as rankOf, lower as lowerOf, isOne, each, nameFault, shown, textFault, widthFault, sortFault, sortsFault, binderFault, needsSort, thyFuncFault, givenFault, exprFault, exprsFault, predFault};
 ghost use Rattle.task.specs.Node.{bytesOf};
-ghost use Rattle.task_check.specs.Walk.{walked, after as afterOf, sortParts, exprParts, applied, quantified, readTrue};
+ghost use Rattle.task_check.specs.Walk.{walked, after as afterOf, sortParts, exprParts, applied, quantified, readTrue, namedAt};
 
 // Where a piece ends and its fault, or the number of the refusal.
 pub enum Walked {
@@ -83,6 +83,17 @@ pub fn name_fault(s: &[u8], x: Span) -> Fault
         return Fault::Sound;
     }
     Fault::Text
+}
+
+// Whether the name at a position is the given one.
+pub fn is_named(s: &[u8], at: usize, x: &[u8]) -> bool
+    ensures { λ r. ⌜ r ≡ isOne (now (x .entry)) (namedAt (now (s .entry)) at) ⌝ }
+{
+    let name = task::read_name(s, at);
+    let SpanRead::At(y, _) = name else {
+        return false;
+    };
+    smtlib::same_bytes(x, task::bytes_of(s, y))
 }
 
 // A byte from 32 to 126; in a string no quotation mark.

@@ -5,7 +5,6 @@ use Prim.Native.Nat.{_-_, _≤_}
 use native.Mathlib.Omega.{arith}
 use lib.ListN.{length, length-map, take, drop}
 use Rattle.task.specs.Fault.{isOne}
-use Rattle.task.specs.Node.{bytesOf}
 use Rattle.constraint_check.specs.Around.{namesOn}
 use Rattle.constraint_check.proofs.Names.{around-goes, around-stops, around-ends}
 use borrow.Author.Needs.{needs}
@@ -13,15 +12,13 @@ use Rattle.constraint_check.proofs.is_around.Statement.{statement}
 use Rattle.constraint_check.proofs.is_around.Tie as tie
 
 abbrev Inv-loop : tie.InvT-loop
-Inv-loop s x n offsets i₀ i = (n ≤ length offsets) × (isOne (bytesOf s x) (namesOn s (drop i (take n offsets))) ≡ isOne (bytesOf s x) (namesOn s (take n offsets)))
+Inv-loop s x n offsets i₀ i = (n ≤ length offsets) × (isOne x (namesOn s (drop i (take n offsets))) ≡ isOne x (namesOn s (take n offsets)))
 
 abbrev μ-loop : tie.MeasureT-loop
 μ-loop s x n offsets i₀ i = n - i
 
 loop-holds : tie.Need-loop-holds Inv-loop μ-loop
-loop-holds c =
-    let l : length (c .before .before .args .path .offsets) ≡ 256 = sym (length-map (c .before .before .args .path .offsets) (λ v. v)) ∙ c .before .before .good .1 .1 .0 .1 .1 .0 .1 .0 .1 in
-    (omega arith, refl)
+loop-holds c = let l : length (c .before .before .before .args .path .offsets) ≡ 256 = sym (length-map (c .before .before .before .args .path .offsets) (λ v. v)) ∙ c .before .before .before .good .1 .1 .0 .1 .1 .0 .1 .0 .1 in (omega arith, refl)
 
 mul-at : tie.Need-mul-at Inv-loop μ-loop
 mul-at c = search needs
@@ -45,7 +42,7 @@ loop-again : tie.Need-loop-again Inv-loop μ-loop
 loop-again c = (c .before .before .before .loop .inv .0, around-goes _ _ _ _ _ _ _ (c .before .before .before .loop .inv .0) (c .before .before .loop-test .taken) (c .before .is-named .ensures) (c .if1 .left) (c .before .before .before .loop .inv .1))
 
 returns-2 : tie.Need-returns-2 Inv-loop μ-loop
-returns-2 c = around-ends (c .before .before .before .before .args .s .now) (bytesOf (c .before .before .before .before .args .s .now) (c .before .before .before .before .args .x)) _ _ _ true _ (c .before .loop .inv .0) (c .loop-test .left) (c .before .loop .inv .1)
+returns-2 c = around-ends (c .before .before .before .before .before .args .s .now) (c .before .before .before .before .before .args .x .now) _ _ _ true _ (c .before .loop .inv .0) (c .loop-test .left) (c .before .loop .inv .1)
 
 pub is-around-spec : {M : Type 1} → statement M
 is-around-spec =
