@@ -104,7 +104,7 @@ fn check_datatype(s: &[u8], at: usize) -> Walked
 }
 
 // n names in a row.
-fn check_names(s: &[u8], at: usize, n: u64) -> Walked
+pub fn check_names(s: &[u8], at: usize, n: u64) -> Walked
     ensures { λ r. ⌜ r ≡ walked (each nameFault) (many [] _∷_ name n (now (s .entry)) at) ⌝ }
 {
     let mut p = at;

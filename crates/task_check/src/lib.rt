@@ -236,7 +236,7 @@ pub fn check_binders(s: &[u8], at: usize, n: u64, levels: usize) -> Walked
 }
 
 // The output sort of an application, if there is one.
-fn check_given(s: &[u8], has: bool, at: usize, levels: usize) -> Walked
+pub fn check_given(s: &[u8], has: bool, at: usize, levels: usize) -> Walked
     ensures { λ r. ⌜ r ≡ walked givenFault (given levels has (now (s .entry)) at) ⌝ }
 {
     if has {
@@ -246,7 +246,7 @@ fn check_given(s: &[u8], has: bool, at: usize, levels: usize) -> Walked
 }
 
 // Whether a theory function is written by its sort.
-fn needs_sort(f: ThyFunc) -> bool
+pub fn needs_sort(f: ThyFunc) -> bool
     ensures { λ r. ⌜ r ≡ needsSort f ⌝ }
 {
     match f {

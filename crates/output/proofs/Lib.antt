@@ -1,0 +1,4 @@
+pub mod Sent
+pub mod Decimals
+pub mod Listing
+pub mod Sending

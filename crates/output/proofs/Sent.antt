@@ -1,0 +1,95 @@
+-- Laws of sending: texts one behind the other, and what stands in the buffer in the end.
+use mathlib.Core.Path.{_≡_, refl, sym, ap, _∙_}
+use mathlib.Core.Logic.{⊎-elim}
+use mathlib.Core.List.{List, [], _∷_, _++_}
+use Prim.Native.Nat.{ℕ, zero, suc, _+_, _-_, _<_, _≤_, min}
+use native.Mathlib.Omega.{arith}
+use native.Mathlib.Nat.{eq-or-lt-of-le, add-zero, le-of-suc-le-suc}
+use native.Mathlib.Numerals.{add-one}
+use lib.ListN.{length, set, take, getD, length-set}
+use lib.Seq.{sets, set-out, length-sets}
+use Rattle.output.specs.Emit.{Output, output, most, emit, emits, Laid}
+
+pub output-path : {b b' : List ℕ} {n n' : ℕ} → b ≡ b' → n ≡ n' → output b n ≡ output b' n'
+output-path p q = λ i. record { buf = p i; len = q i }
+
+pub emits-append : (o : Output) (xs ys : List ℕ) → emits o (xs ++ ys) ≡ emits (emits o xs) ys
+unfolding emits
+emits-append o [] ys = refl
+emits-append o (x ∷ xs) ys = emits-append (emit o x) xs ys
+
+-- behind the buffer's end nothing is stored
+sets-out : (b : List ℕ) (n : ℕ) (t : List ℕ) → length b ≤ n → sets b n t ≡ b
+sets-out b n [] h = refl
+sets-out b n (x ∷ t) h = rw (set-out b n x h) (sets-out b (suc n) t (omega arith))
+
+-- what is sent is stored, and its length is counted
+pub emits-sets : (t b : List ℕ) (n : ℕ) → length b ≤ most → n ≤ most → emits (output b n) t ≡ output (sets b n t) (min (n + length t) most)
+unfolding emits emit
+emits-sets [] b n hb hn = output-path refl (omega arith)
+emits-sets (x ∷ t) b n hb hn =
+    ⊎-elim
+    (λ (h : n ≡ most).
+    let m : min (n + 1) most ≡ n = omega arith in
+    let o : length b ≤ n = omega arith in
+    let o' : length b ≤ suc n = omega arith in
+    rw (m, set-out b n x o) (emits-sets t b n hb hn ∙ output-path (sets-out b n t o ∙ sym (sets-out b (suc n) t o')) (omega arith)))
+    (λ (h : n < most).
+    let m : min (n + 1) most ≡ suc n = omega arith in
+    rw m (emits-sets t (set b n x) (suc n) (rw length-set hb) h ∙ output-path refl (omega arith)))
+    (eq-or-lt-of-le hn)
+
+pub laid : Laid
+laid t b hb ht = emits-sets t b 0 hb (omega arith) ∙ output-path refl (omega arith)
+
+-- one more byte of a text is stored
+sets-step : (t b : List ℕ) (at i : ℕ) → i < length t → set (sets b at (take i t)) (at + i) (getD t i 0) ≡ sets b at (take (suc i) t)
+sets-step [] b at i h = absurd (omega arith)
+sets-step (x ∷ t) b at zero h = rw (add-zero at)
+sets-step (x ∷ t) b at (suc i) h =
+    let e : at + suc i ≡ suc at + i = omega arith in
+    rw e (sets-step t (set b at x) (suc at) i (le-of-suc-le-suc h))
+
+-- as many as fit are all that are stored
+sets-all : (t b : List ℕ) (at i : ℕ) → min (length t) (length b - at) ≤ i → sets b at (take i t) ≡ sets b at t
+sets-all [] b at zero h = refl
+sets-all [] b at (suc i) h = refl
+sets-all (x ∷ t) b at zero h = sym (sets-out b at (x ∷ t) (omega arith))
+sets-all (x ∷ t) b at (suc i) h =
+    sets-all t (set b at x) (suc at) i (let e : length (set b at x) ≡ length b = length-set b at x in omega arith)
+
+-- `store`: of the n bytes that fit, i are stored
+pub record Storing (b t : List ℕ) (at n : ℕ) (now : List ℕ) (i : ℕ) : Type 0 where
+  pub stored : now ≡ sets b at (take i t)
+  pub size : length now ≡ length b
+  pub fit : n ≡ min (length t) (length b - at)
+
+module _ (b t : List ℕ) (at n : ℕ) where
+  pub store-start : (left : ℕ) → n ≡ min (length t) left → left ≡ length b - at → Storing b t at n b 0
+  store-start left e e' = record { stored = refl; size = refl; fit = e ∙ ap (min (length t)) e' }
+
+  pub store-more : (now : List ℕ) (i : ℕ) → Storing b t at n now i → i < n → Storing b t at n (set now (at + i) (getD t i 0)) (i + 1)
+  store-more now i s h =
+      let g : i < length t = omega (arith, s .fit) in
+      record {
+        stored = ap (λ (l : List ℕ). set l (at + i) (getD t i 0)) (s .stored) ∙ sets-step t b at i g ∙ ap (λ (k : ℕ). sets b at (take k t)) (sym (add-one i));
+        size = length-set now (at + i) (getD t i 0) ∙ s .size;
+        fit = s .fit;
+      }
+
+  pub store-end : (now : List ℕ) (i : ℕ) → Storing b t at n now i → n ≤ i → now ≡ sets b at t
+  store-end now i s h = s .stored ∙ sets-all t b at i (omega (arith, s .fit))
+
+-- `bytes`: what was stored and counted is what is sent
+pub sent : (t b b' : List ℕ) (n m : ℕ) → length b ≤ most → n ≤ most → b' ≡ sets b n t → m ≡ min (n + length t) most → output b' m ≡ emits (output b n) t
+sent t b b' n m hb hn e e' = output-path e e' ∙ sym (emits-sets t b n hb hn)
+
+-- `byte`: a byte with room for it, and one without
+module _ (b : List ℕ) (n m x : ℕ) (e : m ≡ min (n + 1) most) where
+  pub byte-fits : output (set b n x) m ≡ emit (output b n) x
+  unfolding emit
+  byte-fits = output-path refl e
+
+  pub byte-over : length b ≤ n → output b m ≡ emit (output b n) x
+  unfolding emit
+  byte-over h = output-path (sym (set-out b n x h)) e

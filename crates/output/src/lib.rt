@@ -1,0 +1,409 @@
+// The output: a counter by value that sends bytes, decimals and names to a buffer, and the names of the theory functions.
+use task::Span;
+use task::ThyFunc;
+ghost use mathlib.Core.Path.{_≡_};
+ghost use mathlib.Core.List.{[], _∷_};
+ghost use Prim.Native.Nat.{_+_, _-_, _*_, _/_, _%_, _^_, _<_, _≤_, min};
+ghost use lib.Dec.{ltb};
+ghost use lib.ListN.{length, drop};
+ghost use lib.Seq.{sets};
+ghost use Rattle.smtlib.specs.Compose.{decimal as decimalOf};
+ghost use Rattle.task.specs.Node.{bytesOf};
+ghost use Rattle.smt_text.specs.Text.{write-thy-func, write-name, write-string};
+ghost use Rattle.output.specs.Emit.{output, most, emit, emits};
+ghost use Rattle.output.specs.Names.{nameAt, placeOf, lengthOf, entryText, entryOf};
+
+// How many bytes were sent.
+pub struct Out {
+    pub len: usize,
+}
+
+// A number divided by ten, and its last digit.
+struct Divided {
+    lo: u64,
+    hi: u64,
+    digit: u8,
+}
+
+// The digits of a number stand from a place on.
+struct Digits {
+    bytes: [u8; 39],
+    start: usize,
+}
+
+// Where a theory function's name stands among the names, and its index if it has one.
+pub enum Entry {
+    Plain(usize),
+    Indexed(usize, u64),
+}
+
+const NAMES: [u8; 309] =
+    *b"str.lenstr.++str.prefixofstr.suffixofstr.containszero_extendsign_extendint2bvbv2intint2bvbv2intint2b\
+    vbv2intint2bvbv2intbvulebvslebvugebvsgebvudivbvsdivbvsrembvurembvlshrbvashrbvandbvorbvxorbvnotbvaddb\
+    vnegbvsubbvmulbvshlbvugtbvsgtbvultbvsltemptysetsingletonunionintersectionsetminussubsetmemberconstse\
+    lectstore";
+
+const PLACES: [u16; 48] = [
+    0,
+    7,
+    13,
+    25,
+    37,
+    49,
+    60,
+    71,
+    77,
+    83,
+    89,
+    95,
+    101,
+    107,
+    113,
+    119,
+    124,
+    129,
+    134,
+    139,
+    145,
+    151,
+    157,
+    163,
+    169,
+    175,
+    180,
+    184,
+    189,
+    194,
+    199,
+    204,
+    209,
+    214,
+    219,
+    224,
+    229,
+    234,
+    239,
+    247,
+    256,
+    261,
+    273,
+    281,
+    287,
+    293,
+    298,
+    304,
+];
+
+const LENGTHS: [u16; 48] = [
+    7,
+    6,
+    12,
+    12,
+    12,
+    11,
+    11,
+    6,
+    6,
+    6,
+    6,
+    6,
+    6,
+    6,
+    6,
+    5,
+    5,
+    5,
+    5,
+    6,
+    6,
+    6,
+    6,
+    6,
+    6,
+    5,
+    4,
+    5,
+    5,
+    5,
+    5,
+    5,
+    5,
+    5,
+    5,
+    5,
+    5,
+    5,
+    8,
+    9,
+    5,
+    12,
+    8,
+    6,
+    6,
+    5,
+    6,
+    5,
+];
+
+// The smaller of two numbers.
+fn least(a: usize, b: usize) -> usize
+    ensures { λ r. ⌜ r ≡ min a b ⌝ }
+{
+    if a < b {
+        return a;
+    }
+    b
+}
+
+// The sum, or the largest number that there is.
+fn sum(a: usize, b: usize) -> usize
+    ensures { λ r. ⌜ r ≡ min (a + b) most ⌝ }
+{
+    if b <= 18446744073709551615 - a {
+        return a + b;
+    }
+    18446744073709551615
+}
+
+// How much of a buffer is left behind a place.
+fn room(size: usize, at: usize) -> usize
+    ensures { λ r. ⌜ r ≡ size - at ⌝ }
+{
+    if at < size {
+        return size - at;
+    }
+    0
+}
+
+// Stores what fits of a text from a place on.
+fn store(buf: &mut [u8], at: usize, text: &[u8])
+    ensures { λ r. ⌜ now (buf .exit) ≡ sets (now (buf .entry)) at (now (text .entry)) ⌝ }
+{
+    let n = least(text.len(), room(buf.len(), at));
+    let mut i: usize = 0;
+    while i < n {
+        buf[at + i] = text[i];
+        i += 1;
+    }
+}
+
+// The number divided by ten: 2^64 is 10 * 1844674407370955161 + 6.
+fn divide(lo: u64, hi: u64) -> Divided
+    ensures { λ r. ⌜ (r .lo + 2 ^ 64 * r .hi ≡ (lo + 2 ^ 64 * hi) / 10) × (r .digit ≡ (lo + 2 ^ 64 * hi) % 10) ⌝ }
+{
+    let r = hi % 10;
+    let m = 6 * r + lo % 10;
+    Divided {
+        lo: r * 1844674407370955161 + lo / 10 + m / 10,
+        hi: hi / 10,
+        digit: (m % 10) as u8,
+    }
+}
+
+fn below_ten(lo: u64, hi: u64) -> bool
+    ensures { λ r. ⌜ r ≡ ltb (lo + 2 ^ 64 * hi) 10 ⌝ }
+{
+    if hi == 0 {
+        return lo < 10;
+    }
+    false
+}
+
+// The decimal of a number of two halves, filled in from the last digit on.
+fn digits_of(lo: u64, hi: u64) -> Digits
+    ensures { λ r. ⌜ (drop (r .start) (r .bytes) ≡ decimalOf (lo + 2 ^ 64 * hi)) × (r .start < 39) × (length (r .bytes) ≡ 39) ⌝ }
+{
+    let mut bytes = [48u8; 39];
+    let mut i: usize = 38;
+    let mut l = lo;
+    let mut h = hi;
+    loop {
+        if below_ten(l, h) {
+            break;
+        }
+        let q = divide(l, h);
+        bytes[i] = 48 + q.digit;
+        l = q.lo;
+        h = q.hi;
+        i -= 1;
+    }
+    let q = divide(l, h);
+    bytes[i] = 48 + q.digit;
+    Digits { bytes, start: i }
+}
+
+impl Out {
+    // Nothing was sent yet.
+    pub fn new() -> Self
+        ensures { λ r. ⌜ r .len ≡ 0 ⌝ }
+    {
+        Self { len: 0 }
+    }
+
+    // Sends bytes.
+    pub fn bytes(self, buf: &mut [u8], text: &[u8]) -> Self
+        ensures { λ r. ⌜ output (now (buf .exit)) (r .len) ≡ emits (output (now (buf .entry)) (self .len)) (now (text .entry)) ⌝ }
+    {
+        let at = self.len;
+        store(buf, at, text);
+        Self {
+            len: sum(at, text.len()),
+        }
+    }
+
+    // Sends a byte.
+    pub fn byte(self, buf: &mut [u8], b: u8) -> Self
+        ensures { λ r. ⌜ output (now (buf .exit)) (r .len) ≡ emit (output (now (buf .entry)) (self .len)) b ⌝ }
+    {
+        let at = self.len;
+        if at < buf.len() {
+            buf[at] = b;
+            return Self { len: at + 1 };
+        }
+        Self { len: sum(at, 1) }
+    }
+
+    // Sends the decimal of a number of two halves, the low one first.
+    pub fn decimal(self, buf: &mut [u8], lo: u64, hi: u64) -> Self
+        ensures { λ r. ⌜ output (now (buf .exit)) (r .len) ≡ emits (output (now (buf .entry)) (self .len)) (decimalOf (lo + 2 ^ 64 * hi)) ⌝ }
+    {
+        let d = digits_of(lo, hi);
+        let all = d.bytes;
+        let start = d.start;
+        self.bytes(buf, &all[start..])
+    }
+
+    // Sends the decimal of a number.
+    pub fn number(self, buf: &mut [u8], n: u64) -> Self
+        ensures { λ r. ⌜ output (now (buf .exit)) (r .len) ≡ emits (output (now (buf .entry)) (self .len)) (decimalOf n) ⌝ }
+    {
+        self.decimal(buf, n, 0)
+    }
+
+    // Sends a name that stands in a section.
+    pub fn name(self, buf: &mut [u8], s: &[u8], x: Span) -> Self
+        ensures { λ r. ⌜ output (now (buf .exit)) (r .len) ≡ emits (output (now (buf .entry)) (self .len)) (write-name (bytesOf (now (s .entry)) x)) ⌝ }
+    {
+        self.bytes(buf, task::bytes_of(s, x))
+    }
+
+    // Sends a string that stands in a section.
+    pub fn string(self, buf: &mut [u8], s: &[u8], x: Span) -> Self
+        ensures { λ r. ⌜ output (now (buf .exit)) (r .len) ≡ emits (output (now (buf .entry)) (self .len)) (write-string (bytesOf (now (s .entry)) x)) ⌝ }
+    {
+        let opened = self.byte(buf, b'"');
+        let sent = opened.bytes(buf, task::bytes_of(s, x));
+        sent.byte(buf, b'"')
+    }
+
+    // Sends name i of a theory function; nothing if there is none.
+    fn listed(self, buf: &mut [u8], i: usize) -> Self
+        ensures { λ r. ⌜ output (now (buf .exit)) (r .len) ≡ emits (output (now (buf .entry)) (self .len)) (nameAt i) ⌝ }
+    {
+        if 48 <= i {
+            return self;
+        }
+        let start = place(i);
+        let end = start + length_of(i);
+        let all = NAMES;
+        self.bytes(buf, &all[start..end])
+    }
+
+    // Sends a name with its index.
+    fn indexed(self, buf: &mut [u8], i: usize, n: u64) -> Self
+        ensures { λ r. ⌜ output (now (buf .exit)) (r .len) ≡ emits (output (now (buf .entry)) (self .len)) (entryText (Entry.Indexed i n)) ⌝ }
+    {
+        let opened = self.bytes(buf, b"(_ ");
+        let named = opened.listed(buf, i);
+        let spaced = named.byte(buf, b' ');
+        let numbered = spaced.number(buf, n);
+        numbered.byte(buf, b')')
+    }
+
+    // Sends a theory function.
+    pub fn write_thy_func(self, buf: &mut [u8], func: ThyFunc) -> Self
+        ensures { λ r. ⌜ output (now (buf .exit)) (r .len) ≡ emits (output (now (buf .entry)) (self .len)) (write-thy-func func) ⌝ }
+    {
+        let entry = entry_of(func);
+        match entry {
+            Entry::Plain(i) => self.listed(buf, i),
+            Entry::Indexed(i, n) => self.indexed(buf, i, n),
+        }
+    }
+}
+
+fn wide(x: u16) -> usize
+    ensures { λ r. ⌜ r ≡ x ⌝ }
+{
+    x as usize
+}
+
+fn place(i: usize) -> usize
+    requires { ⌜ i < 48 ⌝ }
+    ensures { λ r. ⌜ r ≡ placeOf i ⌝ }
+{
+    wide(PLACES[i])
+}
+
+fn length_of(i: usize) -> usize
+    requires { ⌜ i < 48 ⌝ }
+    ensures { λ r. ⌜ r ≡ lengthOf i ⌝ }
+{
+    wide(LENGTHS[i])
+}
+
+// The entry of a theory function.
+fn entry_of(func: ThyFunc) -> Entry
+    ensures { λ r. ⌜ r ≡ entryOf func ⌝ }
+{
+    match func {
+        ThyFunc::StrLen => Entry::Plain(0),
+        ThyFunc::StrConcat => Entry::Plain(1),
+        ThyFunc::StrPrefixOf => Entry::Plain(2),
+        ThyFunc::StrSuffixOf => Entry::Plain(3),
+        ThyFunc::StrContains => Entry::Plain(4),
+        ThyFunc::BvZeroExtend(n) => Entry::Indexed(5, n as u64),
+        ThyFunc::BvSignExtend(n) => Entry::Indexed(6, n as u64),
+        ThyFunc::IntToBv8 => Entry::Indexed(7, 8),
+        ThyFunc::Bv8ToInt => Entry::Plain(8),
+        ThyFunc::IntToBv32 => Entry::Indexed(9, 32),
+        ThyFunc::Bv32ToInt => Entry::Plain(10),
+        ThyFunc::IntToBv64 => Entry::Indexed(11, 64),
+        ThyFunc::Bv64ToInt => Entry::Plain(12),
+        ThyFunc::IntToBv128 => Entry::Indexed(13, 128),
+        ThyFunc::Bv128ToInt => Entry::Plain(14),
+        ThyFunc::BvUle => Entry::Plain(15),
+        ThyFunc::BvSle => Entry::Plain(16),
+        ThyFunc::BvUge => Entry::Plain(17),
+        ThyFunc::BvSge => Entry::Plain(18),
+        ThyFunc::BvUdiv => Entry::Plain(19),
+        ThyFunc::BvSdiv => Entry::Plain(20),
+        ThyFunc::BvSrem => Entry::Plain(21),
+        ThyFunc::BvUrem => Entry::Plain(22),
+        ThyFunc::BvLshr => Entry::Plain(23),
+        ThyFunc::BvAshr => Entry::Plain(24),
+        ThyFunc::BvAnd => Entry::Plain(25),
+        ThyFunc::BvOr => Entry::Plain(26),
+        ThyFunc::BvXor => Entry::Plain(27),
+        ThyFunc::BvNot => Entry::Plain(28),
+        ThyFunc::BvAdd => Entry::Plain(29),
+        ThyFunc::BvNeg => Entry::Plain(30),
+        ThyFunc::BvSub => Entry::Plain(31),
+        ThyFunc::BvMul => Entry::Plain(32),
+        ThyFunc::BvShl => Entry::Plain(33),
+        ThyFunc::BvUgt => Entry::Plain(34),
+        ThyFunc::BvSgt => Entry::Plain(35),
+        ThyFunc::BvUlt => Entry::Plain(36),
+        ThyFunc::BvSlt => Entry::Plain(37),
+        ThyFunc::SetEmpty => Entry::Plain(38),
+        ThyFunc::SetSng => Entry::Plain(39),
+        ThyFunc::SetCup => Entry::Plain(40),
+        ThyFunc::SetCap => Entry::Plain(41),
+        ThyFunc::SetDif => Entry::Plain(42),
+        ThyFunc::SetSub => Entry::Plain(43),
+        ThyFunc::SetMem => Entry::Plain(44),
+        ThyFunc::MapDefault => Entry::Plain(45),
+        ThyFunc::MapSelect => Entry::Plain(46),
+        ThyFunc::MapStore => Entry::Plain(47),
+    }
+}

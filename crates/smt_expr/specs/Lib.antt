@@ -1,0 +1,2 @@
+-- What the writers of expressions send.
+pub mod Parts

@@ -1,0 +1,70 @@
+-- `write_fun_def` reads the name and the numbers before the inputs.
+use Rattle.smt_fmt.proofs.Functions.{function-unnamed, function-unnumbered, function-uncounted, function-sends}
+use borrow.Author.Needs.{needs}
+use Rattle.smt_fmt.proofs.write_fun_def.Statement.{statement}
+use Rattle.smt_fmt.proofs.write_fun_def.Tie as tie
+
+read-name-requires : tie.Need-read-name-requires
+read-name-requires c κs = search needs
+
+enum-known-read : tie.Need-enum-known-read
+enum-known-read c = search needs
+
+enum-told : tie.Need-enum-told
+enum-told c = search needs
+
+returns : tie.Need-returns
+returns c = function-unnamed _ _ _ _ _ (c .before .before .read-name .ensures) _ _ (c .enum-told .given .1)
+
+number-at-requires : tie.Need-number-at-requires
+number-at-requires c κs = search needs
+
+enum-known-params : tie.Need-enum-known-params
+enum-known-params c = search needs
+
+enum-told-2 : tie.Need-enum-told-2
+enum-told-2 c = search needs
+
+returns-2 : tie.Need-returns-2
+returns-2 c = function-unnumbered _ _ _ _ _ (c .before .before .before .before .before .before .read-name .ensures) _ _ (c .before .before .before .before .read .given .1) _ (c .before .before .number-at .ensures) _ _ (c .enum-told2 .given .1)
+
+number-at-requires-2 : tie.Need-number-at-requires-2
+number-at-requires-2 c κs = search needs
+
+enum-known-count : tie.Need-enum-known-count
+enum-known-count c = search needs
+
+enum-told-3 : tie.Need-enum-told-3
+enum-told-3 c = search needs
+
+returns-3 : tie.Need-returns-3
+returns-3 c = function-uncounted _ _ _ _ _ (c .before .before .before .before .before .before .before .before .before .before .read-name .ensures) _ _ (c .before .before .before .before .before .before .before .before .read .given .1) _ (c .before .before .before .before .before .before .number-at .ensures) _ _ (c .before .before .before .before .params .given .1) _ (c .before .before .number-at2 .ensures) _ _ (c .enum-told3 .given .1)
+
+write-function-requires : tie.Need-write-function-requires
+write-function-requires c κs = search needs
+
+same-length : tie.Need-same-length
+same-length c = search needs
+
+returns-4 : tie.Need-returns-4
+returns-4 c = function-sends _ _ _ _ _ (c .before .before .before .before .before .before .before .before .before .before .before .before .before .before .before .read-name .ensures) _ _ (c .before .before .before .before .before .before .before .before .before .before .before .before .before .read .given .1) _ (c .before .before .before .before .before .before .before .before .before .before .before .number-at .ensures) _ _ (c .before .before .before .before .before .before .before .before .before .params .given .1) _ (c .before .before .before .before .before .before .before .number-at2 .ensures) _ _ _ _ (c .before .before .before .before .before .count .given .1) (c .before .before .write-function .ensures)
+
+pub write-fun-def-spec : {M : Type 1} → statement M
+write-fun-def-spec =
+    tie.close
+    (tie.spec
+    read-name-requires
+    enum-known-read
+    enum-told
+    returns
+    number-at-requires
+    enum-known-params
+    enum-told-2
+    returns-2
+    number-at-requires-2
+    enum-known-count
+    enum-told-3
+    returns-3
+    write-function-requires
+    same-length
+    returns-4)

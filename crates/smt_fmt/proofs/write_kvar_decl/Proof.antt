@@ -1,0 +1,62 @@
+-- `write_kvar_decl` sends the opening and a word.
+use Rattle.smt_fmt.proofs.Decls.{kvar-unnamed, kvar-uncounted, kvar-sends}
+use borrow.Author.Needs.{needs}
+use Rattle.smt_fmt.proofs.write_kvar_decl.Statement.{statement}
+use Rattle.smt_fmt.proofs.write_kvar_decl.Tie as tie
+
+read-name-requires : tie.Need-read-name-requires
+read-name-requires c κs = search needs
+
+enum-known-read : tie.Need-enum-known-read
+enum-known-read c = search needs
+
+enum-told : tie.Need-enum-told
+enum-told c = search needs
+
+returns : tie.Need-returns
+returns c = kvar-unnamed _ _ _ _ _ (c .before .before .read-name .ensures) _ _ (c .enum-told .given .1)
+
+number-at-requires : tie.Need-number-at-requires
+number-at-requires c κs = search needs
+
+enum-known-count : tie.Need-enum-known-count
+enum-known-count c = search needs
+
+enum-told-2 : tie.Need-enum-told-2
+enum-told-2 c = search needs
+
+returns-2 : tie.Need-returns-2
+returns-2 c = kvar-uncounted _ _ _ _ _ (c .before .before .before .before .before .before .read-name .ensures) _ _ (c .before .before .before .before .read .given .1) _ (c .before .before .number-at .ensures) _ _ (c .enum-told2 .given .1)
+
+open-signature-requires : tie.Need-open-signature-requires
+open-signature-requires c κs = search needs
+
+slice-aggregate-bytes : tie.Need-slice-aggregate-bytes
+slice-aggregate-bytes c = search needs
+
+bytes-requires : tie.Need-bytes-requires
+bytes-requires c κs = search needs
+
+same-length : tie.Need-same-length
+same-length c = search needs
+
+returns-3 : tie.Need-returns-3
+returns-3 c = kvar-sends _ _ _ _ _ (c .before .before .before .before .before .before .before .before .before .before .before .before .before .before .before .before .before .read-name .ensures) _ _ (c .before .before .before .before .before .before .before .before .before .before .before .before .before .before .before .read .given .1) _ (c .before .before .before .before .before .before .before .before .before .before .before .before .before .number-at .ensures) _ _ _ _ _ (c .before .before .before .before .before .before .before .before .before .before .before .count .given .1) (c .before .before .before .before .before .before .before .before .open-signature .ensures) (c .before .before .bytes .ensures)
+
+pub write-kvar-decl-spec : {M : Type 1} → statement M
+write-kvar-decl-spec =
+    tie.close
+    (tie.spec
+    read-name-requires
+    enum-known-read
+    enum-told
+    returns
+    number-at-requires
+    enum-known-count
+    enum-told-2
+    returns-2
+    open-signature-requires
+    slice-aggregate-bytes
+    bytes-requires
+    same-length
+    returns-3)

@@ -1,0 +1,2 @@
+-- What the writers of predicates and declarations send.
+pub mod Items

@@ -1,0 +1,191 @@
+-- What the steps of the sort writers add up to.
+use mathlib.Core.Path.{_≡_, refl, sym, ap, _∙_}
+use mathlib.Core.Bool.{Bool, true, false, not, cond}
+use mathlib.Core.List.{List, [], _∷_, _++_}
+use Prim.Native.Nat.{ℕ, zero, suc, _-_}
+use native.Mathlib.Numerals.{sub-one}
+use lib.ListN.{take}
+use Rattle.smtlib.specs.Lexicon.{bytes}
+use Rattle.smtlib.specs.Compose.{decimal}
+use Rattle.task.specs.declared.Fault.{Fault}
+use Rattle.task.specs.declared.Span.{Span}
+use Rattle.task.specs.declared.SpanRead.{SpanRead}
+use Rattle.task.specs.declared.SpanRead.the-variants as span-is
+use Rattle.task.specs.declared.SortNode.{SortNode}
+use Rattle.task.specs.declared.SortNode.the-variants as sort-node
+use Rattle.task.specs.Ast.{SortCtor, Sort, Sorts, Binder}
+use Rattle.task.specs.Decode.{Res, got, refuse, bind, give, _▹_, many, name, binder, decSort}
+use Rattle.task.specs.Fault.{isOne, sortsFault}
+use Rattle.task.specs.Node.{bytesOf, spanOf, sortOf, SortAt}
+use Rattle.task_check.specs.declared.Walked.{Walked}
+use Rattle.task_check.specs.declared.Walked.the-variants as walked-is
+use Rattle.task_check.specs.Walk.{walked}
+use Rattle.task_check.proofs.Rows.{next-is, refused-is}
+use Rattle.task.specs.Task.{declaredBy}
+use Rattle.item_check.specs.Search.{datatypesIn}
+use Rattle.smt_text.specs.Encoder.{Encoder, isOpaque}
+use Rattle.smt_text.specs.Text.{applied, sexp-list, write-name, write-sort-ctor, write-sort, write-sorts, write-binder, write-binders}
+use Rattle.output.specs.Emit.{Output, emit, emits, Sends}
+use Rattle.output.proofs.Sent.{emits-append}
+use Rattle.output.proofs.Sending.{sends-refused, sends-end, sends-as, sends-then, sends-map, Row, row-none, row-some, row-list}
+use Rattle.smt_sort.specs.declared.Datatypes.{Datatypes}
+use Rattle.smt_sort.specs.declared.SortCtor as code
+use Rattle.smt_sort.specs.Section.{declaredIn, encoderIn, ctorOf, sortsText, sortList, appliedText, bindersText, binderList}
+
+pub sorts-row : (enc : Encoder) → Row Sorts.none Sorts.more (write-sort enc) (write-sorts enc)
+unfolding write-sort write-sorts
+sorts-row enc = record { none = refl; step = λ b bs. refl }
+
+pub binders-row : (enc : Encoder) → Row [] _∷_ (write-binder enc) (write-binders enc)
+binders-row enc = record { none = refl; step = λ b bs. refl }
+
+-- the names that the datatype section declares
+pub declared-is : (s : List ℕ) (d : Datatypes) (x : Span) (ctors c : Bool) (section word : List ℕ) (r : Bool) → ctors ≡ c → section ≡ take (d .end) s → word ≡ bytesOf s x
+    → r ≡ isOne word (declaredBy c (datatypesIn section (d .at))) → r ≡ isOne (bytesOf s x) (declaredIn s d ctors)
+unfolding declaredIn
+declared-is s d x ctors c section word r e e1 e2 e3 = e3 ∙ rw (e1, e2, e)
+
+-- what an applied sort is made by, told in another way
+pub ctor-is : (s : List ℕ) (c c' : code.SortCtor) (o o' : Output) → c ≡ c' → o' ≡ emits o (write-sort-ctor (ctorOf s c')) → o' ≡ emits o (write-sort-ctor (ctorOf s c))
+ctor-is s c c' o o' e w = w ∙ ap (λ (k : code.SortCtor). emits o (write-sort-ctor (ctorOf s k))) (sym e)
+
+-- a sort by its node
+pub sort-none : (enc : Encoder) (l : ℕ) (s : List ℕ) (at : ℕ) (o o' : Output) (r : ℕ) → l ≡ 0 → Sends (write-sort enc) (decSort l s at) o o' r
+unfolding decSort
+sort-none enc l s at o o' r e = rw e (sends-refused (write-sort enc) o o' r 3)
+
+sort-at : (l : ℕ) (s : List ℕ) (at : ℕ) (n n' : SortNode) → (l ≡ 0 → ⊥) → SortAt s at n → n ≡ n' → decSort l s at ≡ sortOf s (decSort (l - 1)) n'
+unfolding decSort SortAt
+sort-at zero s at n n' z h e = absurd (z refl)
+sort-at (suc l) s at n n' z h e = rw (sub-one (suc l)) (h (decSort l) ∙ ap (sortOf s (decSort l)) e)
+
+module _ (enc : Encoder) (l : ℕ) (s : List ℕ) (at : ℕ) (n n' : SortNode) (o o' : Output) (r : ℕ) where
+  pub sort-arm : (l ≡ 0 → ⊥) → SortAt s at n → n ≡ n' → Sends (write-sort enc) (sortOf s (decSort (l - 1)) n') o o' r
+      → Sends (write-sort enc) (decSort l s at) o o' r
+  sort-arm z h e w = rw (sort-at l s at n n' z h e) w
+
+  -- a node that is the whole sort
+  pub sort-leaf : (b : Sort) (p : ℕ) → (l ≡ 0 → ⊥) → SortAt s at n → n ≡ n' → sortOf s (decSort (l - 1)) n' ≡ got b p
+      → (r ≡ p) × (o' ≡ emits o (write-sort enc b)) → Sends (write-sort enc) (decSort l s at) o o' r
+  sort-leaf b p z h e u v = rw (sort-at l s at n n' z h e ∙ u) (sends-end (write-sort enc) o o' r b p (v .0) (v .1))
+
+pub refused-sends : (enc : Encoder) (s : List ℕ) (l : ℕ) (o o' : Output) (r : ℕ) → Sends (write-sort enc) (sortOf s (decSort l) sort-node.Refused) o o' r
+unfolding sortOf
+refused-sends enc s l o o' r = sends-refused (write-sort enc) o o' r 2
+
+module _ (enc : Encoder) (s : List ℕ) (l p : ℕ) (o : Output) where
+  pub abs-sends : (i : ℕ) (o' : Output) (r : ℕ) → Sends (write-sort enc) (decSort l s p) o o' r
+      → Sends (write-sort enc) (sortOf s (decSort l) (sort-node.Abs i p)) o o' r
+  unfolding sortOf write-sort
+  abs-sends i o' r w = sends-map (write-sort enc) (Sort.abs i) (decSort l s p) o o' r w
+
+  pub bit-vec-sends : (o1 o2 o3 : Output) (q : ℕ) → o1 ≡ emits o (bytes "(_ BitVec ") → Sends (write-sort enc) (decSort l s p) o1 o2 q → o3 ≡ emit o2 41
+      → Sends (write-sort enc) (sortOf s (decSort l) (sort-node.BitVec p)) o o3 q
+  unfolding sortOf write-sort emits
+  bit-vec-sends o1 o2 o3 q e1 w e3 =
+      sends-then (write-sort enc) o o3 q (write-sort enc) (decSort l s p) _ o1 o2 q w (λ b e v.
+      sends-end (write-sort enc) o o3 q (Sort.bitVec b) q refl (rw (e3, v, e1) (simp emits-append)))
+
+  pub func-sends : (o1 o2 o3 o4 o5 : Output) (q r : ℕ) → o1 ≡ emits o (bytes "(Array ") → Sends (write-sort enc) (decSort l s p) o1 o2 q → o3 ≡ emit o2 32
+      → Sends (write-sort enc) (decSort l s q) o3 o4 r → o5 ≡ emit o4 41 → Sends (write-sort enc) (sortOf s (decSort l) (sort-node.Func p)) o o5 r
+  unfolding sortOf write-sort emits
+  func-sends o1 o2 o3 o4 o5 q r e1 w e3 w' e5 =
+      sends-then (write-sort enc) o o5 r (write-sort enc) (decSort l s p) _ o1 o2 q w (λ a e v.
+      sends-then (write-sort enc) o o5 r (write-sort enc) (decSort l s q) _ o3 o4 r w' (λ b e' v'.
+      sends-end (write-sort enc) o o5 r (Sort.func a b) r refl (rw (e5, v', e3, v, e1) (simp emits-append))))
+
+  -- a sort that is made of others
+  pub set-sends : (n : ℕ) (o' : Output) (r : ℕ) → Sends (appliedText enc SortCtor.set) (many Sorts.none Sorts.more (decSort l) n s p) o o' r
+      → Sends (write-sort enc) (sortOf s (decSort l) (sort-node.Set n p)) o o' r
+  unfolding sortOf write-sort appliedText
+  set-sends n o' r w = sends-map (write-sort enc) (Sort.app SortCtor.set) (many Sorts.none Sorts.more (decSort l) n s p) o o' r w
+
+  pub map-sends : (n : ℕ) (o' : Output) (r : ℕ) → Sends (appliedText enc SortCtor.map) (many Sorts.none Sorts.more (decSort l) n s p) o o' r
+      → Sends (write-sort enc) (sortOf s (decSort l) (sort-node.Map n p)) o o' r
+  unfolding sortOf write-sort appliedText
+  map-sends n o' r w = sends-map (write-sort enc) (Sort.app SortCtor.map) (many Sorts.none Sorts.more (decSort l) n s p) o o' r w
+
+  pub bare-sends : (c : SortCtor) (n : ℕ) (o' : Output) → n ≡ 0 → o' ≡ emits o (write-sort-ctor c)
+      → Sends (appliedText enc c) (many Sorts.none Sorts.more (decSort l) n s p) o o' p
+  unfolding appliedText
+  bare-sends c n o' z e = row-none (sorts-row enc) (decSort l) s (applied (write-sort-ctor c)) n p o o' z e
+
+  pub some-sends : (c : SortCtor) (n : ℕ) (o1 o2 o3 o4 : Output) (q : ℕ) → (n ≡ 0 → ⊥) → o1 ≡ emit o 40 → o2 ≡ emits o1 (write-sort-ctor c)
+      → Sends (sortsText enc) (many Sorts.none Sorts.more (decSort l) n s p) o2 o3 q → o4 ≡ emit o3 41
+      → Sends (appliedText enc c) (many Sorts.none Sorts.more (decSort l) n s p) o o4 q
+  unfolding appliedText sortsText emits
+  some-sends c n o1 o2 o3 o4 q z e1 e2 w e4 =
+      row-some (sorts-row enc) (decSort l) s (applied (write-sort-ctor c)) n p (write-sort-ctor c) o o2 o3 o4 q (λ w ws. refl) z
+      (e2 ∙ ap (λ (u : Output). emits u (write-sort-ctor c)) e1) w e4
+
+-- a datatype that is declared, and one that is not
+module _ (s : List ℕ) (types : Datatypes) (l : ℕ) (x : Span) (n p : ℕ) (o : Output) (t : Bool) (e : t ≡ isOne (bytesOf s x) (declaredIn s types false)) where
+  opaque-is : isOpaque (encoderIn s types) (SortCtor.named (bytesOf s x)) ≡ not t
+  unfolding encoderIn declaredIn
+  opaque-is = ap not (sym e)
+
+  app-text : (bs : Sorts) → write-sort (encoderIn s types) (Sort.app (SortCtor.named (bytesOf s x)) bs)
+      ≡ cond (not t) (bytes "Int") (appliedText (encoderIn s types) (SortCtor.named (bytesOf s x)) bs)
+  unfolding write-sort appliedText
+  app-text bs =
+      ap (λ (u : Bool). cond u (bytes "Int") (applied (write-sort-ctor (SortCtor.named (bytesOf s x))) (write-sorts (encoderIn s types) bs))) opaque-is
+
+  pub data-sends : (o' : Output) (r : ℕ) → t ≡ true
+      → Sends (appliedText (encoderIn s types) (SortCtor.named (bytesOf s x))) (many Sorts.none Sorts.more (decSort l) n s p) o o' r
+      → Sends (write-sort (encoderIn s types)) (sortOf s (decSort l) (sort-node.Data x n p)) o o' r
+  unfolding sortOf
+  data-sends o' r u w =
+      sends-then (write-sort (encoderIn s types)) o o' r (appliedText (encoderIn s types) (SortCtor.named (bytesOf s x))) (many Sorts.none Sorts.more (decSort l) n s p) _ o o' r w (λ bs e' v.
+      sends-end (write-sort (encoderIn s types)) o o' r (Sort.app (SortCtor.named (bytesOf s x)) bs) r refl (v ∙ ap (emits o) (sym (app-text bs ∙ simp u))))
+
+  pub opaque-sends : (v : Walked) (q : ℕ) (f : Fault) (o' : Output) (r : ℕ) → t ≡ false
+      → v ≡ walked sortsFault (many Sorts.none Sorts.more (decSort l) n s p) → v ≡ walked-is.Next q f → (r ≡ q) × (o' ≡ emits o (bytes "Int"))
+      → Sends (write-sort (encoderIn s types)) (sortOf s (decSort l) (sort-node.Data x n p)) o o' r
+  unfolding sortOf
+  opaque-sends v q f o' r u e1 e2 w =
+      let y = next-is sortsFault (many Sorts.none Sorts.more (decSort l) n s p) q f (sym e2 ∙ e1) in
+      rw (y .is)
+      (sends-end (write-sort (encoderIn s types)) o o' r (Sort.app (SortCtor.named (bytesOf s x)) (y .value)) q (w .0)
+      (w .1 ∙ ap (emits o) (sym (app-text (y .value) ∙ simp u))))
+
+  pub skipped-sends : (v : Walked) (k : ℕ) (o' : Output) (r : ℕ) → v ≡ walked sortsFault (many Sorts.none Sorts.more (decSort l) n s p) → v ≡ walked-is.Refused k
+      → Sends (write-sort (encoderIn s types)) (sortOf s (decSort l) (sort-node.Data x n p)) o o' r
+  unfolding sortOf
+  skipped-sends v k o' r e1 e2 =
+      rw (refused-is sortsFault (many Sorts.none Sorts.more (decSort l) n s p) k (sym e2 ∙ e1)) (sends-refused (write-sort (encoderIn s types)) o o' r k)
+
+-- sorts in parentheses
+module _ (enc : Encoder) (l : ℕ) (s : List ℕ) (n p : ℕ) (o : Output) where
+  pub no-sorts : (o' : Output) (r : ℕ) → n ≡ 0 → (r ≡ p) × (o' ≡ emits o (bytes "()")) → Sends (sortList enc) (many Sorts.none Sorts.more (decSort l) n s p) o o' r
+  unfolding sortList
+  no-sorts o' r z w = rw (w .0) (row-none (sorts-row enc) (decSort l) s sexp-list n p o o' z (w .1))
+
+  pub some-sorts : (o1 o2 o3 o4 : Output) (q r : ℕ) → (n ≡ 0 → ⊥) → o1 ≡ emit o 40 → Sends (write-sort enc) (decSort l s p) o1 o2 q
+      → Sends (sortsText enc) (many Sorts.none Sorts.more (decSort l) (n - 1) s q) o2 o3 r → o4 ≡ emit o3 41
+      → Sends (sortList enc) (many Sorts.none Sorts.more (decSort l) n s p) o o4 r
+  unfolding sortList sortsText
+  some-sorts o1 o2 o3 o4 q r z e1 w w' e4 = row-list (sorts-row enc) (decSort l) s sexp-list n p o o1 o2 o3 o4 q r (λ w ws. refl) z e1 w w' e4
+
+  -- names with their sorts in parentheses
+  pub no-binders : (o' : Output) (r : ℕ) → n ≡ 0 → (r ≡ p) × (o' ≡ emits o (bytes "()")) → Sends (binderList enc) (many [] _∷_ (binder l) n s p) o o' r
+  unfolding binderList
+  no-binders o' r z w = rw (w .0) (row-none (binders-row enc) (binder l) s sexp-list n p o o' z (w .1))
+
+  pub some-binders : (o1 o2 o3 o4 : Output) (q r : ℕ) → (n ≡ 0 → ⊥) → o1 ≡ emit o 40 → Sends (write-binder enc) (binder l s p) o1 o2 q
+      → Sends (bindersText enc) (many [] _∷_ (binder l) (n - 1) s q) o2 o3 r → o4 ≡ emit o3 41
+      → Sends (binderList enc) (many [] _∷_ (binder l) n s p) o o4 r
+  unfolding binderList bindersText
+  some-binders o1 o2 o3 o4 q r z e1 w w' e4 = row-list (binders-row enc) (binder l) s sexp-list n p o o1 o2 o3 o4 q r (λ w ws. refl) z e1 w w' e4
+
+-- a name with its sort
+module _ (enc : Encoder) (l : ℕ) (s : List ℕ) (at : ℕ) (v : SpanRead) (h : name s at ≡ spanOf s v) (o : Output) where
+  pub no-name : (o' : Output) (r : ℕ) → v ≡ span-is.Refused → Sends (write-binder enc) (binder l s at) o o' r
+  no-name o' r e = rw (h ∙ ap (spanOf s) e) (sends-refused (write-binder enc) o o' r 2)
+
+  pub binder-sends : (x : Span) (p : ℕ) (o1 o2 o3 o4 o5 : Output) (q : ℕ) → v ≡ span-is.At x p → o1 ≡ emit o 40 → o2 ≡ emits o1 (write-name (bytesOf s x))
+      → o3 ≡ emit o2 32 → Sends (write-sort enc) (decSort l s p) o3 o4 q → o5 ≡ emit o4 41 → Sends (write-binder enc) (binder l s at) o o5 q
+  unfolding write-binder emits
+  binder-sends x p o1 o2 o3 o4 o5 q e e1 e2 e3 w e5 =
+      rw (h ∙ ap (spanOf s) e)
+      (sends-then (write-binder enc) o o5 q (write-sort enc) (decSort l s p) _ o3 o4 q w (λ b e' u.
+      sends-end (write-binder enc) o o5 q (record { name = bytesOf s x; sort = b }) q refl (rw (e5, u, e3, e2, e1) (simp emits-append))))

@@ -1,0 +1,2 @@
+-- What the writers of sorts send.
+pub mod Section

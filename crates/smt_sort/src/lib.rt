@@ -1,0 +1,346 @@
+// Writers of sorts. A writer reads any bytes at any position, sends what it writes to the output and asks nothing: where a piece is
+// decoded, it sends the piece's text and ends behind the piece.
+use output::Out;
+use task::SortNode;
+use task::Span;
+use task::SpanRead;
+use task_check::Walked;
+ghost use mathlib.Core.Path.{_≡_};
+ghost use mathlib.Core.List.{[], _∷_};
+ghost use Rattle.smtlib.specs.Compose.{decimal};
+ghost use Rattle.task.specs.Ast.{Sorts};
+ghost use Rattle.task.specs.Decode.{many, binder, decSort};
+ghost use Rattle.task.specs.Fault.{isOne};
+ghost use Rattle.task.specs.Node.{bytesOf, sortOf};
+ghost use Rattle.smt_text.specs.Text.{write-parameter as parameterText, write-sort-ctor, write-sort, write-binder};
+ghost use Rattle.output.specs.Emit.{output, emits, Sends};
+ghost use Rattle.smt_sort.specs.Section.{declaredIn, encoderIn, ctorOf, sortsText, sortList, appliedText, bindersText, binderList};
+
+// Where the datatype section begins and ends.
+pub struct Datatypes {
+    pub at: usize,
+    pub end: usize,
+}
+
+// Where a writer ended, and the output then.
+pub struct Sent {
+    pub at: usize,
+    pub out: Out,
+}
+
+// What an applied sort is made by.
+pub enum SortCtor {
+    Set,
+    Map,
+    Data(Span),
+}
+
+// Whether a name is that of a declared constructor, or of a declared datatype.
+pub fn is_declared(s: &[u8], types: Datatypes, x: Span, ctors: bool) -> bool
+    ensures { λ r. ⌜ r ≡ isOne (bytesOf (now (s .entry)) x) (declaredIn (now (s .entry)) types ctors) ⌝ }
+{
+    let whole = Span {
+        at: 0,
+        len: types.end,
+    };
+    let section = task::bytes_of(s, whole);
+    let name = task::bytes_of(s, x);
+    if ctors {
+        return item_check::is_ctor(section, types.at, name);
+    }
+    item_check::is_datatype(section, types.at, name)
+}
+
+// Sends a word.
+pub fn write_word(word: &[u8], p: usize, buf: &mut [u8], out: Out) -> Sent
+    ensures { λ r. ⌜ (r .at ≡ p) × (output (now (buf .exit)) (r .out .len) ≡ emits (output (now (buf .entry)) (out .len)) (now (word .entry))) ⌝ }
+{
+    let sent = out.bytes(buf, word);
+    Sent { at: p, out: sent }
+}
+
+// Sends a number.
+pub fn write_number(n: u64, p: usize, buf: &mut [u8], out: Out) -> Sent
+    ensures { λ r. ⌜ (r .at ≡ p) × (output (now (buf .exit)) (r .out .len) ≡ emits (output (now (buf .entry)) (out .len)) (decimal n)) ⌝ }
+{
+    let sent = out.number(buf, n);
+    Sent { at: p, out: sent }
+}
+
+// Sends parameter i of a datatype.
+pub fn write_parameter(i: u64, p: usize, buf: &mut [u8], out: Out) -> Sent
+    ensures { λ r. ⌜ (r .at ≡ p) × (output (now (buf .exit)) (r .out .len) ≡ emits (output (now (buf .entry)) (out .len)) (parameterText i)) ⌝ }
+{
+    let opened = out.byte(buf, b'T');
+    let sent = opened.number(buf, i);
+    Sent { at: p, out: sent }
+}
+
+// Sends what an applied sort is made by.
+fn write_sort_ctor(s: &[u8], ctor: SortCtor, buf: &mut [u8], out: Out) -> Out
+    ensures { λ r. ⌜ output (now (buf .exit)) (r .len) ≡ emits (output (now (buf .entry)) (out .len)) (write-sort-ctor (ctorOf (now (s .entry)) ctor)) ⌝ }
+{
+    match ctor {
+        SortCtor::Set => out.bytes(buf, b"Set"),
+        SortCtor::Map => out.bytes(buf, b"Array"),
+        SortCtor::Data(x) => out.name(buf, s, x),
+    }
+}
+
+// Sends the sort at a position.
+pub fn write_sort(
+    s: &[u8],
+    at: usize,
+    levels: usize,
+    types: Datatypes,
+    buf: &mut [u8],
+    out: Out,
+) -> Sent
+    ensures { λ r. ⌜ Sends (write-sort (encoderIn (now (s .entry)) types)) (decSort levels (now (s .entry)) at) (output (now (buf .entry)) (out .len)) (output (now (buf .exit)) (r .out .len)) (r .at) ⌝ }
+{
+    if levels == 0 {
+        return Sent { at, out };
+    }
+    let below = levels - 1;
+    let node = task::read_sort_node(s, at);
+    match node {
+        SortNode::Int(p) => write_word(b"Int", p, buf, out),
+        SortNode::Bool(p) => write_word(b"Bool", p, buf, out),
+        SortNode::Real(p) => write_word(b"Real", p, buf, out),
+        SortNode::Str(p) => write_word(b"String", p, buf, out),
+        SortNode::BitVec(p) => write_bit_vec(s, p, below, types, buf, out),
+        SortNode::BvSize(n, p) => write_number(n, p, buf, out),
+        SortNode::Var(i, p) => write_parameter(i, p, buf, out),
+        SortNode::Func(p) => write_array(s, p, below, types, buf, out),
+        SortNode::Abs(_, p) => write_sort(s, p, below, types, buf, out),
+        SortNode::Set(n, p) => write_applied(s, SortCtor::Set, n, p, below, types, buf, out),
+        SortNode::Map(n, p) => write_applied(s, SortCtor::Map, n, p, below, types, buf, out),
+        SortNode::Data(x, n, p) => write_data(s, x, n, p, below, types, buf, out),
+        SortNode::Refused => Sent { at, out },
+    }
+}
+
+// A BitVec with its width.
+fn write_bit_vec(
+    s: &[u8],
+    at: usize,
+    levels: usize,
+    types: Datatypes,
+    buf: &mut [u8],
+    out: Out,
+) -> Sent
+    ensures { λ r. ⌜ Sends (write-sort (encoderIn (now (s .entry)) types)) (sortOf (now (s .entry)) (decSort levels) (SortNode.BitVec at)) (output (now (buf .entry)) (out .len)) (output (now (buf .exit)) (r .out .len)) (r .at) ⌝ }
+{
+    let opened = out.bytes(buf, b"(_ BitVec ");
+    let width = write_sort(s, at, levels, types, buf, opened);
+    let sent = width.out;
+    let closed = sent.byte(buf, b')');
+    Sent {
+        at: width.at,
+        out: closed,
+    }
+}
+
+// A Func as an array.
+fn write_array(
+    s: &[u8],
+    at: usize,
+    levels: usize,
+    types: Datatypes,
+    buf: &mut [u8],
+    out: Out,
+) -> Sent
+    ensures { λ r. ⌜ Sends (write-sort (encoderIn (now (s .entry)) types)) (sortOf (now (s .entry)) (decSort levels) (SortNode.Func at)) (output (now (buf .entry)) (out .len)) (output (now (buf .exit)) (r .out .len)) (r .at) ⌝ }
+{
+    let opened = out.bytes(buf, b"(Array ");
+    let from = write_sort(s, at, levels, types, buf, opened);
+    let first = from.out;
+    let spaced = first.byte(buf, b' ');
+    let to = write_sort(s, from.at, levels, types, buf, spaced);
+    let second = to.out;
+    let closed = second.byte(buf, b')');
+    Sent {
+        at: to.at,
+        out: closed,
+    }
+}
+
+// A sort that is made by another, or of n others.
+fn write_applied(
+    s: &[u8],
+    ctor: SortCtor,
+    n: u64,
+    at: usize,
+    levels: usize,
+    types: Datatypes,
+    buf: &mut [u8],
+    out: Out,
+) -> Sent
+    ensures { λ r. ⌜ Sends (appliedText (encoderIn (now (s .entry)) types) (ctorOf (now (s .entry)) ctor)) (many Sorts.none Sorts.more (decSort levels) n (now (s .entry)) at) (output (now (buf .entry)) (out .len)) (output (now (buf .exit)) (r .out .len)) (r .at) ⌝ }
+{
+    if n == 0 {
+        let sent = write_sort_ctor(s, ctor, buf, out);
+        return Sent { at, out: sent };
+    }
+    let opened = out.byte(buf, b'(');
+    let made = write_sort_ctor(s, ctor, buf, opened);
+    let sorts = write_sorts(s, at, n, levels, types, buf, made);
+    let sent = sorts.out;
+    let closed = sent.byte(buf, b')');
+    Sent {
+        at: sorts.at,
+        out: closed,
+    }
+}
+
+// A datatype, or `Int` for one that is not declared.
+fn write_data(
+    s: &[u8],
+    x: Span,
+    n: u64,
+    at: usize,
+    levels: usize,
+    types: Datatypes,
+    buf: &mut [u8],
+    out: Out,
+) -> Sent
+    ensures { λ r. ⌜ Sends (write-sort (encoderIn (now (s .entry)) types)) (sortOf (now (s .entry)) (decSort levels) (SortNode.Data x n at)) (output (now (buf .entry)) (out .len)) (output (now (buf .exit)) (r .out .len)) (r .at) ⌝ }
+{
+    if is_declared(s, types, x, false) {
+        return write_applied(s, SortCtor::Data(x), n, at, levels, types, buf, out);
+    }
+    let sorts = task_check::check_sorts(s, at, n, levels);
+    let Walked::Next(p, _) = sorts else {
+        return Sent { at, out };
+    };
+    write_word(b"Int", p, buf, out)
+}
+
+// Sends n sorts, a space before each.
+fn write_sorts(
+    s: &[u8],
+    at: usize,
+    n: u64,
+    levels: usize,
+    types: Datatypes,
+    buf: &mut [u8],
+    out: Out,
+) -> Sent
+    ensures { λ r. ⌜ Sends (sortsText (encoderIn (now (s .entry)) types)) (many Sorts.none Sorts.more (decSort levels) n (now (s .entry)) at) (output (now (buf .entry)) (out .len)) (output (now (buf .exit)) (r .out .len)) (r .at) ⌝ }
+{
+    let mut p = at;
+    let mut left = n;
+    let mut sent = out;
+    while 0 < left {
+        let spaced = sent.byte(buf, b' ');
+        let one = write_sort(s, p, levels, types, buf, spaced);
+        p = one.at;
+        sent = one.out;
+        left -= 1;
+    }
+    Sent { at: p, out: sent }
+}
+
+// Sends n sorts in parentheses.
+pub fn write_sort_list(
+    s: &[u8],
+    at: usize,
+    n: u64,
+    levels: usize,
+    types: Datatypes,
+    buf: &mut [u8],
+    out: Out,
+) -> Sent
+    ensures { λ r. ⌜ Sends (sortList (encoderIn (now (s .entry)) types)) (many Sorts.none Sorts.more (decSort levels) n (now (s .entry)) at) (output (now (buf .entry)) (out .len)) (output (now (buf .exit)) (r .out .len)) (r .at) ⌝ }
+{
+    if n == 0 {
+        return write_word(b"()", at, buf, out);
+    }
+    let opened = out.byte(buf, b'(');
+    let first = write_sort(s, at, levels, types, buf, opened);
+    let rest = write_sorts(s, first.at, n - 1, levels, types, buf, first.out);
+    let sent = rest.out;
+    let closed = sent.byte(buf, b')');
+    Sent {
+        at: rest.at,
+        out: closed,
+    }
+}
+
+// Sends a name with its sort.
+pub fn write_binder(
+    s: &[u8],
+    at: usize,
+    levels: usize,
+    types: Datatypes,
+    buf: &mut [u8],
+    out: Out,
+) -> Sent
+    ensures { λ r. ⌜ Sends (write-binder (encoderIn (now (s .entry)) types)) (binder levels (now (s .entry)) at) (output (now (buf .entry)) (out .len)) (output (now (buf .exit)) (r .out .len)) (r .at) ⌝ }
+{
+    let read = task::read_name(s, at);
+    let SpanRead::At(x, p) = read else {
+        return Sent { at, out };
+    };
+    let opened = out.byte(buf, b'(');
+    let named = opened.name(buf, s, x);
+    let spaced = named.byte(buf, b' ');
+    let sort = write_sort(s, p, levels, types, buf, spaced);
+    let sent = sort.out;
+    let closed = sent.byte(buf, b')');
+    Sent {
+        at: sort.at,
+        out: closed,
+    }
+}
+
+// Sends n names with their sorts, a space before each.
+pub fn write_binders(
+    s: &[u8],
+    at: usize,
+    n: u64,
+    levels: usize,
+    types: Datatypes,
+    buf: &mut [u8],
+    out: Out,
+) -> Sent
+    ensures { λ r. ⌜ Sends (bindersText (encoderIn (now (s .entry)) types)) (many [] _∷_ (binder levels) n (now (s .entry)) at) (output (now (buf .entry)) (out .len)) (output (now (buf .exit)) (r .out .len)) (r .at) ⌝ }
+{
+    let mut p = at;
+    let mut left = n;
+    let mut sent = out;
+    while 0 < left {
+        let spaced = sent.byte(buf, b' ');
+        let one = write_binder(s, p, levels, types, buf, spaced);
+        p = one.at;
+        sent = one.out;
+        left -= 1;
+    }
+    Sent { at: p, out: sent }
+}
+
+// Sends n names with their sorts in parentheses.
+pub fn write_binder_list(
+    s: &[u8],
+    at: usize,
+    n: u64,
+    levels: usize,
+    types: Datatypes,
+    buf: &mut [u8],
+    out: Out,
+) -> Sent
+    ensures { λ r. ⌜ Sends (binderList (encoderIn (now (s .entry)) types)) (many [] _∷_ (binder levels) n (now (s .entry)) at) (output (now (buf .entry)) (out .len)) (output (now (buf .exit)) (r .out .len)) (r .at) ⌝ }
+{
+    if n == 0 {
+        return write_word(b"()", at, buf, out);
+    }
+    let opened = out.byte(buf, b'(');
+    let first = write_binder(s, at, levels, types, buf, opened);
+    let rest = write_binders(s, first.at, n - 1, levels, types, buf, first.out);
+    let sent = rest.out;
+    let closed = sent.byte(buf, b')');
+    Sent {
+        at: rest.at,
+        out: closed,
+    }
+}

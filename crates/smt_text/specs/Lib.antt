@@ -1,0 +1,6 @@
+-- What is written for a task's sorts, expressions, predicates and declarations, what is called for, and that they meet. Read in this order.
+pub mod Encoder
+pub mod Theory
+pub mod Text
+pub mod Sexp
+pub mod Theorems

@@ -1,0 +1,61 @@
+-- The names of the theory functions: `write_thy_func`'s table. Another table of names changes this file alone.
+use Prim.Native.Nat.{ℕ}
+use Prim.Native.String.{String}
+use Rattle.task.specs.declared.ThyFunc.{ThyFunc}
+use Rattle.task.specs.declared.ThyFunc.the-variants.{StrLen, StrConcat, StrPrefixOf, StrSuffixOf, StrContains, BvZeroExtend, BvSignExtend, IntToBv8, Bv8ToInt, IntToBv32, Bv32ToInt, IntToBv64, Bv64ToInt, IntToBv128, Bv128ToInt, BvUle, BvSle, BvUge, BvSge, BvUdiv, BvSdiv, BvSrem, BvUrem, BvLshr, BvAshr, BvAnd, BvOr, BvXor, BvNot, BvAdd, BvNeg, BvSub, BvMul, BvShl, BvUgt, BvSgt, BvUlt, BvSlt, SetEmpty, SetSng, SetCup, SetCap, SetDif, SetSub, SetMem, MapDefault, MapSelect, MapStore}
+
+-- a symbol, or a symbol with an index: `f`, `(_ f n)`
+pub data Identifier : Type 0 where
+  plain : String → Identifier
+  indexed : String → ℕ → Identifier
+
+-- what a theory function is called
+unfoldable pub thyFuncName : ThyFunc → Identifier
+thyFuncName StrLen = Identifier.plain "str.len"
+thyFuncName StrConcat = Identifier.plain "str.++"
+thyFuncName StrPrefixOf = Identifier.plain "str.prefixof"
+thyFuncName StrSuffixOf = Identifier.plain "str.suffixof"
+thyFuncName StrContains = Identifier.plain "str.contains"
+thyFuncName (BvZeroExtend w) = Identifier.indexed "zero_extend" w
+thyFuncName (BvSignExtend w) = Identifier.indexed "sign_extend" w
+thyFuncName IntToBv8 = Identifier.indexed "int2bv" 8
+thyFuncName Bv8ToInt = Identifier.plain "bv2int"
+thyFuncName IntToBv32 = Identifier.indexed "int2bv" 32
+thyFuncName Bv32ToInt = Identifier.plain "bv2int"
+thyFuncName IntToBv64 = Identifier.indexed "int2bv" 64
+thyFuncName Bv64ToInt = Identifier.plain "bv2int"
+thyFuncName IntToBv128 = Identifier.indexed "int2bv" 128
+thyFuncName Bv128ToInt = Identifier.plain "bv2int"
+thyFuncName BvUle = Identifier.plain "bvule"
+thyFuncName BvSle = Identifier.plain "bvsle"
+thyFuncName BvUge = Identifier.plain "bvuge"
+thyFuncName BvSge = Identifier.plain "bvsge"
+thyFuncName BvUdiv = Identifier.plain "bvudiv"
+thyFuncName BvSdiv = Identifier.plain "bvsdiv"
+thyFuncName BvSrem = Identifier.plain "bvsrem"
+thyFuncName BvUrem = Identifier.plain "bvurem"
+thyFuncName BvLshr = Identifier.plain "bvlshr"
+thyFuncName BvAshr = Identifier.plain "bvashr"
+thyFuncName BvAnd = Identifier.plain "bvand"
+thyFuncName BvOr = Identifier.plain "bvor"
+thyFuncName BvXor = Identifier.plain "bvxor"
+thyFuncName BvNot = Identifier.plain "bvnot"
+thyFuncName BvAdd = Identifier.plain "bvadd"
+thyFuncName BvNeg = Identifier.plain "bvneg"
+thyFuncName BvSub = Identifier.plain "bvsub"
+thyFuncName BvMul = Identifier.plain "bvmul"
+thyFuncName BvShl = Identifier.plain "bvshl"
+thyFuncName BvUgt = Identifier.plain "bvugt"
+thyFuncName BvSgt = Identifier.plain "bvsgt"
+thyFuncName BvUlt = Identifier.plain "bvult"
+thyFuncName BvSlt = Identifier.plain "bvslt"
+thyFuncName SetEmpty = Identifier.plain "emptyset"
+thyFuncName SetSng = Identifier.plain "singleton"
+thyFuncName SetCup = Identifier.plain "union"
+thyFuncName SetCap = Identifier.plain "intersection"
+thyFuncName SetDif = Identifier.plain "setminus"
+thyFuncName SetSub = Identifier.plain "subset"
+thyFuncName SetMem = Identifier.plain "member"
+thyFuncName MapDefault = Identifier.plain "const"
+thyFuncName MapSelect = Identifier.plain "select"
+thyFuncName MapStore = Identifier.plain "store"
