@@ -9,7 +9,7 @@ use native.Mathlib.Nat.{div-lt-iff-lt-mul, pow-suc, mul-suc, lt-of-lt-of-le, le-
 use lib.Dec.{ltb, lit≤}
 use lib.ListN.{length, drop, take, set, length-set, length-drop, drop-of-length-le}
 use lib.Seq.{take-all, drop-cons, getD-set-same, drop-set-lt}
-use borrow.Author.Tests.{ltb-true, ltb-false, lt-ltb, le-ltb}
+use borrow.Author.Tests.{ltb-true, ltb-false, le-ltb}
 use Rattle.smtlib.specs.Compose.{digits, decimal}
 use Rattle.smtlib.proofs.Decimal.{decimal-digits}
 

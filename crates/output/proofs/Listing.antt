@@ -1,12 +1,11 @@
 -- Each name stands at its place among the names: one computed test over the whole table.
-use mathlib.Core.Path.{_≡_, refl, sym, ap, _∙_}
+use mathlib.Core.Path.{_≡_, refl, sym, ap}
 use mathlib.Core.Bool.{Bool, _&&_}
-use mathlib.Core.List.{List, []}
+use mathlib.Core.List.{List}
 use Prim.Native.Nat.{ℕ, _+_, _-_, _<_, _≤_}
 use native.Mathlib.Nat.{add-sub-cancel-left}
-use native.Mathlib.Omega.{arith}
 use lib.Dec.{T, leb, leb→le}
-use lib.ListN.{length, take, drop, getD, List·getD-eq-default}
+use lib.ListN.{take, drop, getD, List·getD-eq-default}
 use Rattle.smtlib.specs.Lexicon.{bytes, same}
 use Rattle.smtlib.specs.Compose.{decimal}
 use Rattle.smtlib.specs.Table.{values}

@@ -1,6 +1,6 @@
 -- What the steps of a writer add up to: laws over the decoder's answers and the texts.
 use mathlib.Core.Path.{_≡_, refl, sym, ap, _∙_}
-use mathlib.Core.List.{List, [], _∷_, _++_}
+use mathlib.Core.List.{List, [], _∷_}
 use Prim.Native.Nat.{ℕ, zero, suc, _-_, _<_, _≤_}
 use native.Mathlib.Omega.{arith}
 use Rattle.task.specs.Decode.{Res, got, refuse, bind, Decoder, many}
@@ -21,10 +21,6 @@ module _ {A : Type 0} (text : A → List ℕ) (o o' : Output) (r : ℕ) where
   sends-end a p u v b q e =
       let ea : a ≡ b = cc in
       (u ∙ (cc), v ∙ ap (λ (x : A). emits o (text x)) ea)
-
-  -- the same piece, told in another way
-  pub sends-as : (x y : Res A) → x ≡ y → Sends text x o o' r → Sends text y o o' r
-  sends-as x y e w = rw (sym e) w
 
   -- what a piece leads to: where it was decoded it ended at q, with o1 sent
   pub sends-then : {B : Type 0} (part : B → List ℕ) (x : Res B) (k : B → ℕ → Res A) (o0 o1 : Output) (q : ℕ) → Sends part x o0 o1 q

@@ -7,7 +7,7 @@ use native.Mathlib.Omega.{arith}
 use native.Mathlib.Nat.{eq-or-lt-of-le, add-zero, le-of-suc-le-suc}
 use native.Mathlib.Numerals.{add-one}
 use lib.ListN.{length, set, take, getD, length-set}
-use lib.Seq.{sets, set-out, length-sets}
+use lib.Seq.{sets, set-out}
 use Rattle.output.specs.Emit.{Output, output, most, emit, emits, Laid}
 
 pub output-path : {b b' : List ℕ} {n n' : ℕ} → b ≡ b' → n ≡ n' → output b n ≡ output b' n'

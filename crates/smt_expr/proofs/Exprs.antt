@@ -1,7 +1,7 @@
 -- What the steps of the expression writers add up to.
 use mathlib.Core.Path.{_≡_, refl, sym, ap, _∙_}
 use mathlib.Core.Bool.{Bool, true, false, cond}
-use mathlib.Core.List.{List, [], _∷_, _++_}
+use mathlib.Core.List.{List, [], _∷_}
 use mathlib.Core.Option.{Option, none, some}
 use Prim.Native.Nat.{ℕ, zero, suc, _-_}
 use native.Mathlib.Numerals.{sub-one}
@@ -20,16 +20,16 @@ use Rattle.task.specs.Ast.{Sort, Expr, Exprs}
 use Rattle.task.specs.Decode.{Res, got, refuse, bind, number, many, binder, given, decSort, decExpr}
 use Rattle.task.specs.Fault.{givenFault, exprFault}
 use Rattle.task.specs.Node.{numberOf, bytesOf, exprOf, ExprAt}
-use Rattle.task.proofs.Reading.{bind-got, got-refuse}
+use Rattle.task.proofs.Reading.{bind-got}
 use Rattle.task_check.specs.declared.Walked.{Walked}
 use Rattle.task_check.specs.declared.Walked.the-variants as walked-is
 use Rattle.task_check.specs.Walk.{walked}
 use Rattle.task_check.proofs.Rows.{next-is, refused-is}
 use Rattle.smt_text.specs.Encoder.{Encoder, isQualified}
-use Rattle.smt_text.specs.Text.{applied, write-name, write-unary, write-binary, write-nary, write-atom, write-bin-op, write-quantifier, write-as, write-application-head, write-sort, write-binders, write-expr, write-exprs}
+use Rattle.smt_text.specs.Text.{applied, write-name, write-nary, write-bin-op, write-quantifier, write-as, write-application-head, write-sort, write-expr, write-exprs}
 use Rattle.output.specs.Emit.{Output, emit, emits, Sends}
 use Rattle.output.proofs.Sent.{emits-append}
-use Rattle.output.proofs.Sending.{sends-refused, sends-end, sends-as, sends-then, sends-map, Row, row-none, row-some}
+use Rattle.output.proofs.Sending.{sends-refused, sends-end, sends-then, sends-map, Row, row-none, row-some}
 use Rattle.smt_sort.specs.Section.{binderList}
 use Rattle.smt_expr.specs.Parts.{two, exprsText, unaryText, binaryText, atomText, naryText, TellsQualified, HeadSends}
 

@@ -6,7 +6,7 @@ use mathlib.Core.List.{List}
 use mathlib.Core.Option.{Option}
 use Rattle.task.specs.declared.BinRel.{BinRel}
 use Rattle.task.specs.Ast.{Sort, Expr, Exprs}
-use Rattle.task.specs.Decode.{Res, got, Decoder, give, _▹_, given, decExpr}
+use Rattle.task.specs.Decode.{Res, got, Decoder, give, _▹_, decExpr}
 use Rattle.smt_text.specs.Encoder.{Encoder, isQualified}
 use Rattle.smt_text.specs.Text.{spaced, write-unary, write-binary, write-nary, write-atom, write-application-head, write-expr, write-exprs}
 use Rattle.output.specs.Emit.{Output, Sends}

@@ -1,90 +1,21 @@
 // Writers of expressions. As those of sorts they read any bytes and ask nothing.
 use output::Out;
 use smt_sort::Datatypes;
-use smt_sort::Sent;
+use smt_word::Sent;
 use task::BinOp;
 use task::BinRel;
 use task::ExprNode;
 use task::Number;
 use task::Quantifier;
 use task::Span;
-use task::ThyFunc;
 use task_check::Walked;
-ghost use mathlib.Core.Path.{_≡_};
-ghost use mathlib.Core.List.{_∷_};
-ghost use Prim.Native.Nat.{_+_, _*_, _^_};
-ghost use Rattle.task.specs.Ast.{Constant, Exprs};
+ghost use Rattle.task.specs.Ast.{Exprs};
 ghost use Rattle.task.specs.Decode.{many, given, decExpr};
-ghost use Rattle.task.specs.Node.{bytesOf, exprOf};
-ghost use Rattle.smtlib.specs.Compose.{decimal};
-ghost use Rattle.smt_text.specs.Text.{write-name, write-string as stringText, write-constant, write-boolean as booleanText, write-bin-op, write-quantifier, write-thy-func, write-expr};
-ghost use Rattle.output.specs.Emit.{output, emits, Sends};
+ghost use Rattle.task.specs.Node.{exprOf};
+ghost use Rattle.smt_text.specs.Text.{write-bin-op, write-expr};
+ghost use Rattle.output.specs.Emit.{output, Sends};
 ghost use Rattle.smt_sort.specs.Section.{encoderIn};
 ghost use Rattle.smt_expr.specs.Parts.{two, exprsText, unaryText, binaryText, atomText, naryText, TellsQualified, HeadSends};
-
-// Sends a number of two halves.
-fn write_numeral(lo: u64, hi: u64, p: usize, buf: &mut [u8], out: Out) -> Sent
-    ensures { λ r. ⌜ (r .at ≡ p) × (output (now (buf .exit)) (r .out .len) ≡ emits (output (now (buf .entry)) (out .len)) (decimal (lo + 2 ^ 64 * hi))) ⌝ }
-{
-    let sent = out.decimal(buf, lo, hi);
-    Sent { at: p, out: sent }
-}
-
-// Sends a Boolean.
-fn write_boolean(b: bool, p: usize, buf: &mut [u8], out: Out) -> Sent
-    ensures { λ r. ⌜ (r .at ≡ p) × (output (now (buf .exit)) (r .out .len) ≡ emits (output (now (buf .entry)) (out .len)) (booleanText b)) ⌝ }
-{
-    if b {
-        return smt_sort::write_word(b"true", p, buf, out);
-    }
-    smt_sort::write_word(b"false", p, buf, out)
-}
-
-// Sends a string.
-fn write_string(s: &[u8], x: Span, p: usize, buf: &mut [u8], out: Out) -> Sent
-    ensures { λ r. ⌜ (r .at ≡ p) × (output (now (buf .exit)) (r .out .len) ≡ emits (output (now (buf .entry)) (out .len)) (stringText (bytesOf (now (s .entry)) x))) ⌝ }
-{
-    let sent = out.string(buf, s, x);
-    Sent { at: p, out: sent }
-}
-
-// Sends a value of a BitVec with its width.
-fn write_bit_vec(lo: u64, hi: u64, width: u64, p: usize, buf: &mut [u8], out: Out) -> Sent
-    ensures { λ r. ⌜ (r .at ≡ p) × (output (now (buf .exit)) (r .out .len) ≡ emits (output (now (buf .entry)) (out .len)) (write-constant (Constant.bitVec (lo + 2 ^ 64 * hi) width))) ⌝ }
-{
-    let opened = out.bytes(buf, b"(_ bv");
-    let valued = opened.decimal(buf, lo, hi);
-    let spaced = valued.byte(buf, b' ');
-    let sized = spaced.number(buf, width);
-    let closed = sized.byte(buf, b')');
-    Sent { at: p, out: closed }
-}
-
-// Sends a name.
-fn write_var(s: &[u8], x: Span, p: usize, buf: &mut [u8], out: Out) -> Sent
-    ensures { λ r. ⌜ (r .at ≡ p) × (output (now (buf .exit)) (r .out .len) ≡ emits (output (now (buf .entry)) (out .len)) (write-name (bytesOf (now (s .entry)) x))) ⌝ }
-{
-    let sent = out.name(buf, s, x);
-    Sent { at: p, out: sent }
-}
-
-// Sends a theory function.
-fn write_function(func: ThyFunc, p: usize, buf: &mut [u8], out: Out) -> Sent
-    ensures { λ r. ⌜ (r .at ≡ p) × (output (now (buf .exit)) (r .out .len) ≡ emits (output (now (buf .entry)) (out .len)) (write-thy-func func)) ⌝ }
-{
-    let sent = out.write_thy_func(buf, func);
-    Sent { at: p, out: sent }
-}
-
-// Sends which quantifier it is, behind the parenthesis.
-fn open_quantifier(q: Quantifier, buf: &mut [u8], out: Out) -> Out
-    ensures { λ r. ⌜ output (now (buf .exit)) (r .len) ≡ emits (output (now (buf .entry)) (out .len)) (40 ∷ write-quantifier q) ⌝ }
-{
-    match q {
-        Quantifier::Exists => out.bytes(buf, b"(exists"),
-        Quantifier::Forall => out.bytes(buf, b"(forall"),
-    }
-}
 
 // Whether an expression is written with the output sort as an application's head: a declared constructor, SetEmpty or MapDefault.
 fn is_qualified(s: &[u8], at: usize, types: Datatypes) -> bool
@@ -115,12 +46,12 @@ pub fn write_expr(
     let below = levels - 1;
     let node = task::read_expr_node(s, at);
     match node {
-        ExprNode::Numeral(lo, hi, p) => write_numeral(lo, hi, p, buf, out),
-        ExprNode::Boolean(b, p) => write_boolean(b, p, buf, out),
-        ExprNode::Real(n, p) => smt_sort::write_number(n, p, buf, out),
-        ExprNode::String(x, p) => write_string(s, x, p, buf, out),
-        ExprNode::BitVec(lo, hi, w, p) => write_bit_vec(lo, hi, w, p, buf, out),
-        ExprNode::Var(x, p) => write_var(s, x, p, buf, out),
+        ExprNode::Numeral(lo, hi, p) => smt_word::write_numeral(lo, hi, p, buf, out),
+        ExprNode::Boolean(b, p) => smt_word::write_boolean(b, p, buf, out),
+        ExprNode::Real(n, p) => smt_word::write_number(n, p, buf, out),
+        ExprNode::String(x, p) => smt_word::write_string(s, x, p, buf, out),
+        ExprNode::BitVec(lo, hi, w, p) => smt_word::write_bit_vec(lo, hi, w, p, buf, out),
+        ExprNode::Var(x, p) => smt_word::write_var(s, x, p, buf, out),
         ExprNode::WKVar(p) => Sent { at: p, out },
         ExprNode::Neg(p) => write_unary(s, b"-", p, below, types, buf, out),
         ExprNode::Not(p) => write_unary(s, b"not", p, below, types, buf, out),
@@ -133,7 +64,7 @@ pub fn write_expr(
         ExprNode::IfThenElse(p) => write_ite(s, p, below, types, buf, out),
         ExprNode::Let(x, p) => write_let(s, x, p, below, types, buf, out),
         ExprNode::App(has, p) => write_app(s, has, p, below, types, buf, out),
-        ExprNode::ThyFunc(f, p) => write_function(f, p, buf, out),
+        ExprNode::ThyFunc(f, p) => smt_word::write_function(f, p, buf, out),
         ExprNode::IsCtor(x, p) => write_is_ctor(s, x, p, below, types, buf, out),
         ExprNode::Quantifier(q, n, p) => write_quantifier(s, q, n, p, below, types, buf, out),
         ExprNode::Refused => Sent { at, out },
@@ -288,7 +219,7 @@ fn write_nary(
     ensures { λ r. ⌜ Sends (naryText (encoderIn (now (s .entry)) types) (now (op .entry)) (now (empty .entry))) (many Exprs.none Exprs.more (decExpr levels) n (now (s .entry)) at) (output (now (buf .entry)) (out .len)) (output (now (buf .exit)) (r .out .len)) (r .at) ⌝ }
 {
     if n == 0 {
-        return smt_sort::write_word(empty, at, buf, out);
+        return smt_word::write_word(empty, at, buf, out);
     }
     let opened = out.byte(buf, b'(');
     let named = opened.bytes(buf, op);
@@ -385,7 +316,7 @@ fn write_quantifier(
 ) -> Sent
     ensures { λ r. ⌜ Sends (write-expr (encoderIn (now (s .entry)) types)) (exprOf (now (s .entry)) levels (decExpr levels) (ExprNode.Quantifier q n at)) (output (now (buf .entry)) (out .len)) (output (now (buf .exit)) (r .out .len)) (r .at) ⌝ }
 {
-    let opened = open_quantifier(q, buf, out);
+    let opened = smt_word::open_quantifier(q, buf, out);
     let spaced = opened.byte(buf, b' ');
     let names = smt_sort::write_binder_list(s, at, n, levels, types, buf, spaced);
     let listed = names.out;

@@ -1,18 +1,14 @@
 -- What the steps of the writers of predicates and declarations add up to.
 use mathlib.Core.Path.{_≡_, refl, sym, ap, _∙_}
-use mathlib.Core.Bool.{Bool, true, false, cond}
-use mathlib.Core.List.{List, [], _∷_, _++_}
-use mathlib.Core.Option.{Option, none, some}
+use mathlib.Core.Bool.{Bool}
+use mathlib.Core.List.{List, [], _∷_}
+use mathlib.Core.Option.{none}
 use Prim.Native.Nat.{ℕ, zero, suc, _+_, _-_, _<_, _≤_}
 use native.Mathlib.Numerals.{add-one, sub-one}
 use native.Mathlib.Omega.{arith}
-use lib.Dec.{eqb}
-use borrow.Author.Tests.{eq-eqb, ne-eqb}
+use borrow.Author.Tests.{ne-eqb}
 use Rattle.smtlib.specs.Lexicon.{bytes}
 use Rattle.smtlib.specs.Compose.{decimal}
-use Rattle.task.specs.declared.Fault.{Fault}
-use Rattle.task.specs.declared.FlagRead.{FlagRead}
-use Rattle.task.specs.declared.FlagRead.the-variants as flag-is
 use Rattle.task.specs.declared.Number.{Number}
 use Rattle.task.specs.declared.Number.the-variants as number-is
 use Rattle.task.specs.declared.PredNode.{PredNode}
@@ -20,24 +16,18 @@ use Rattle.task.specs.declared.PredNode.the-variants as pred-node
 use Rattle.task.specs.declared.Span.{Span}
 use Rattle.task.specs.declared.SpanRead.{SpanRead}
 use Rattle.task.specs.declared.SpanRead.the-variants as span-is
-use Rattle.task.specs.Ast.{Sort, Sorts, Binder, Expr, Exprs, Pred, DataCtor, DataDecl, FunBody, FunDef, KVarDecl}
-use Rattle.task.specs.Decode.{Res, got, refuse, bind, Decoder, give, _▹_, number, many, counted, name, flag, binder, decSort, decExpr, decPred, dataCtor, datatype, constant, body, function, kvar, deepest}
-use Rattle.task.specs.Fault.{each, nameFault, sortFault, sortsFault}
-use Rattle.task.specs.Node.{numberOf, bytesOf, spanOf, flagOf, predOf, PredAt}
-use Rattle.task.proofs.Reading.{bind-got, got-refuse}
-use Rattle.task_check.specs.declared.Walked.{Walked}
-use Rattle.task_check.specs.declared.Walked.the-variants as walked-is
-use Rattle.task_check.specs.Walk.{walked}
-use Rattle.task_check.proofs.Rows.{next-is, refused-is}
-use Rattle.smt_text.specs.Encoder.{Encoder, zip}
-use Rattle.smt_text.specs.Text.{spaced, sexp-list, applied, write-name, write-parameter, write-sort, write-sorts, write-binder, write-binders, write-expr, write-pred, write-ctor, write-ctors, write-parameters, write-datatype-decl, write-const-decl, write-fun-signature, write-fun-body, write-fun-def, write-kvar-decl}
+use Rattle.task.specs.Ast.{Sorts, Expr, Exprs, Pred}
+use Rattle.task.specs.Decode.{Res, bind, number, many, name, binder, decSort, decExpr, decPred, dataCtor, datatype, constant, kvar, deepest}
+use Rattle.task.specs.Node.{numberOf, bytesOf, spanOf, predOf, PredAt}
+use Rattle.smt_text.specs.Encoder.{Encoder}
+use Rattle.smt_text.specs.Text.{spaced, sexp-list, applied, write-name, write-parameter, write-sort, write-expr, write-pred, write-ctor, write-ctors, write-parameters, write-datatype-decl, write-const-decl, write-kvar-decl}
 use Rattle.output.specs.Emit.{Output, emit, emits, Sends}
 use Rattle.output.proofs.Sent.{emits-append}
 use Rattle.output.proofs.Sending.{sends-refused, sends-end, sends-then, sends-map, Row, row-none, row-some, row-list}
 use Rattle.smt_sort.specs.Section.{sortList, bindersText}
 use Rattle.smt_expr.specs.Parts.{exprsText}
 use Rattle.smt_expr.proofs.Exprs.{exprs-row}
-use Rattle.smt_fmt.specs.Items.{kvarText, ctorsText, ctorList, bodyText, openText, openingText, signed, ArgSends, ZipSends, SignatureSends, DefinedSends, BodySends}
+use Rattle.smt_fmt.specs.Items.{kvarText, ctorsText, ctorList, bodyText, openText, openingText, SignatureSends}
 
 -- a KVar without arguments, and with some
 module _ (enc : Encoder) (x : List ℕ) (l : ℕ) (s : List ℕ) (n p : ℕ) (o : Output) where

@@ -16,8 +16,8 @@ use Rattle.task.specs.declared.Number.the-variants as number-is
 use Rattle.task.specs.declared.Span.{Span}
 use Rattle.task.specs.declared.SpanRead.{SpanRead}
 use Rattle.task.specs.declared.SpanRead.the-variants as span-is
-use Rattle.task.specs.Ast.{Sort, Sorts, Binder, Expr, FunBody, FunDef}
-use Rattle.task.specs.Decode.{Res, got, refuse, bind, number, many, name, flag, decSort, decExpr, body, function, deepest}
+use Rattle.task.specs.Ast.{Sort, Sorts, Binder, FunBody, FunDef}
+use Rattle.task.specs.Decode.{got, refuse, bind, number, many, name, flag, decSort, decExpr, body, function, deepest}
 use Rattle.task.specs.Fault.{each, nameFault, sortFault, sortsFault}
 use Rattle.task.specs.Node.{numberOf, bytesOf, spanOf, flagOf}
 use Rattle.task.proofs.Reading.{bind-got, got-refuse}
@@ -26,10 +26,10 @@ use Rattle.task_check.specs.declared.Walked.the-variants as walked-is
 use Rattle.task_check.specs.Walk.{walked}
 use Rattle.task_check.proofs.Rows.{next-is, refused-is}
 use Rattle.smt_text.specs.Encoder.{Encoder, zip}
-use Rattle.smt_text.specs.Text.{spaced, sexp-list, write-name, write-sort, write-sorts, write-binder, write-binders, write-expr, write-fun-signature, write-fun-body, write-fun-def}
+use Rattle.smt_text.specs.Text.{spaced, sexp-list, write-name, write-sort, write-binder, write-binders, write-expr, write-fun-body, write-fun-def}
 use Rattle.output.specs.Emit.{Output, emit, emits, Sends}
 use Rattle.output.proofs.Sent.{emits-append}
-use Rattle.output.proofs.Sending.{sends-refused, sends-end, sends-then}
+use Rattle.output.proofs.Sending.{sends-refused, sends-end}
 use Rattle.smt_fmt.specs.Items.{signed, ArgSends, ZipSends, SignatureSends, DefinedSends, BodySends}
 use Rattle.smt_fmt.proofs.Decls.{no-name, named, no-number, numbered, no-count, counted-is}
 

@@ -2,13 +2,13 @@
 use Prim.Native.Nat.{ℕ}
 use Prim.Native.Char.{code}
 use mathlib.Core.Path.{_≡_}
-use mathlib.Core.Bool.{Bool, cond}
+use mathlib.Core.Bool.{cond}
 use mathlib.Core.List.{List, [], _∷_, _++_}
 use mathlib.Core.Option.{Option}
 use lib.Dec.{eqb}
 use Rattle.smtlib.specs.Lexicon.{bytes}
 use Rattle.smtlib.specs.Compose.{decimal}
-use Rattle.task.specs.Ast.{Sort, Sorts, Binder, Expr, Exprs, DataCtor, DataDecl, FunBody, FunDef}
+use Rattle.task.specs.Ast.{Sort, Sorts, Expr, Exprs, DataCtor, FunBody, FunDef}
 use Rattle.task.specs.Decode.{Res, got, Decoder, give, _▹_, many, name, flag, decSort, body, deepest}
 use Rattle.smt_text.specs.Encoder.{Encoder, zip}
 use Rattle.smt_text.specs.Text.{spaced, sexp-list, applied, write-name, write-sort, write-sorts, write-binder, write-binders, write-expr, write-exprs, write-ctors, write-parameters, write-fun-signature, write-fun-body}
@@ -25,10 +25,6 @@ ctorsText enc cs = spaced (write-ctors enc cs)
 -- constructors in parentheses: `write_datatype_ctors`
 unfoldable pub ctorList : Encoder → List DataCtor → List ℕ
 ctorList enc cs = sexp-list (write-ctors enc cs)
-
--- parameters from i on, a space before each
-unfoldable pub parametersText : ℕ → ℕ → List ℕ
-parametersText i n = spaced (write-parameters i n)
 
 -- the constructors, behind the parameters if there are any
 unfoldable pub bodyText : Encoder → ℕ → List DataCtor → List ℕ

@@ -2,7 +2,7 @@
 // any bytes and ask nothing. With them `write_kvar_decl` of `smt_horn.rs`.
 use output::Out;
 use smt_sort::Datatypes;
-use smt_sort::Sent;
+use smt_word::Sent;
 use task::FlagRead;
 use task::Number;
 use task::PredNode;
@@ -130,7 +130,7 @@ fn write_datatype_ctors(
     ensures { λ r. ⌜ Sends (ctorList (encoderIn (now (s .entry)) types)) (many [] _∷_ dataCtor n (now (s .entry)) at) (output (now (buf .entry)) (out .len)) (output (now (buf .exit)) (r .out .len)) (r .at) ⌝ }
 {
     if n == 0 {
-        return smt_sort::write_word(b"()", at, buf, out);
+        return smt_word::write_word(b"()", at, buf, out);
     }
     let opened = out.byte(buf, b'(');
     let first = write_ctor(s, at, types, buf, opened);
@@ -155,7 +155,7 @@ fn write_parameters(n: u64, buf: &mut [u8], out: Out) -> Out
     let mut sent = out.bytes(buf, b"(T0");
     while i < n {
         let spaced = sent.byte(buf, b' ');
-        let one = smt_sort::write_parameter(i, 0, buf, spaced);
+        let one = smt_word::write_parameter(i, 0, buf, spaced);
         sent = one.out;
         i += 1;
     }

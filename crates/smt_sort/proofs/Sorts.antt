@@ -1,20 +1,19 @@
 -- What the steps of the sort writers add up to.
 use mathlib.Core.Path.{_≡_, refl, sym, ap, _∙_}
 use mathlib.Core.Bool.{Bool, true, false, not, cond}
-use mathlib.Core.List.{List, [], _∷_, _++_}
+use mathlib.Core.List.{List, [], _∷_}
 use Prim.Native.Nat.{ℕ, zero, suc, _-_}
 use native.Mathlib.Numerals.{sub-one}
 use lib.ListN.{take}
 use Rattle.smtlib.specs.Lexicon.{bytes}
-use Rattle.smtlib.specs.Compose.{decimal}
 use Rattle.task.specs.declared.Fault.{Fault}
 use Rattle.task.specs.declared.Span.{Span}
 use Rattle.task.specs.declared.SpanRead.{SpanRead}
 use Rattle.task.specs.declared.SpanRead.the-variants as span-is
 use Rattle.task.specs.declared.SortNode.{SortNode}
 use Rattle.task.specs.declared.SortNode.the-variants as sort-node
-use Rattle.task.specs.Ast.{SortCtor, Sort, Sorts, Binder}
-use Rattle.task.specs.Decode.{Res, got, refuse, bind, give, _▹_, many, name, binder, decSort}
+use Rattle.task.specs.Ast.{SortCtor, Sort, Sorts}
+use Rattle.task.specs.Decode.{got, many, name, binder, datatype, decSort}
 use Rattle.task.specs.Fault.{isOne, sortsFault}
 use Rattle.task.specs.Node.{bytesOf, spanOf, sortOf, SortAt}
 use Rattle.task_check.specs.declared.Walked.{Walked}
@@ -23,14 +22,15 @@ use Rattle.task_check.specs.Walk.{walked}
 use Rattle.task_check.proofs.Rows.{next-is, refused-is}
 use Rattle.task.specs.Task.{declaredBy}
 use Rattle.item_check.specs.Search.{datatypesIn}
-use Rattle.smt_text.specs.Encoder.{Encoder, isOpaque}
+use Rattle.item_check.proofs.Searches.{meets-all}
+use Rattle.smt_text.specs.Encoder.{Encoder, encoder, isOpaque}
 use Rattle.smt_text.specs.Text.{applied, sexp-list, write-name, write-sort-ctor, write-sort, write-sorts, write-binder, write-binders}
 use Rattle.output.specs.Emit.{Output, emit, emits, Sends}
 use Rattle.output.proofs.Sent.{emits-append}
-use Rattle.output.proofs.Sending.{sends-refused, sends-end, sends-as, sends-then, sends-map, Row, row-none, row-some, row-list}
+use Rattle.output.proofs.Sending.{sends-refused, sends-end, sends-then, sends-map, Row, row-none, row-some, row-list}
 use Rattle.smt_sort.specs.declared.Datatypes.{Datatypes}
 use Rattle.smt_sort.specs.declared.SortCtor as code
-use Rattle.smt_sort.specs.Section.{declaredIn, encoderIn, ctorOf, sortsText, sortList, appliedText, bindersText, binderList}
+use Rattle.smt_sort.specs.Section.{declaredIn, encoderIn, EncoderIs, ctorOf, sortsText, sortList, appliedText, bindersText, binderList}
 
 pub sorts-row : (enc : Encoder) → Row Sorts.none Sorts.more (write-sort enc) (write-sorts enc)
 unfolding write-sort write-sorts
@@ -44,6 +44,11 @@ pub declared-is : (s : List ℕ) (d : Datatypes) (x : Span) (ctors c : Bool) (se
     → r ≡ isOne word (declaredBy c (datatypesIn section (d .at))) → r ≡ isOne (bytesOf s x) (declaredIn s d ctors)
 unfolding declaredIn
 declared-is s d x ctors c section word r e e1 e2 e3 = e3 ∙ rw (e1, e2, e)
+
+-- in a section that decodes they are those of its datatypes
+pub encoder-is : EncoderIs
+unfolding encoderIn
+encoder-is s d ds q e = ap encoder (meets-all .meets datatype (take (d .end) s) (d .at) ds q e)
 
 -- what an applied sort is made by, told in another way
 pub ctor-is : (s : List ℕ) (c c' : code.SortCtor) (o o' : Output) → c ≡ c' → o' ≡ emits o (write-sort-ctor (ctorOf s c')) → o' ≡ emits o (write-sort-ctor (ctorOf s c))

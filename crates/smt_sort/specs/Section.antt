@@ -1,9 +1,11 @@
 -- What the code's values stand for in what is written.
 use Prim.Native.Nat.{ℕ}
-use mathlib.Core.Bool.{Bool, true, false}
+use mathlib.Core.Bool.{Bool}
 use mathlib.Core.List.{List}
+use mathlib.Core.Path.{_≡_}
 use lib.ListN.{take}
-use Rattle.task.specs.Ast.{SortCtor, Sorts, Binder}
+use Rattle.task.specs.Ast.{SortCtor, Sorts, Binder, DataDecl}
+use Rattle.task.specs.Decode.{got, datatype, section}
 use Rattle.task.specs.Node.{bytesOf}
 use Rattle.task.specs.Task.{declaredBy}
 use Rattle.item_check.specs.Search.{datatypesIn}
@@ -20,6 +22,11 @@ declaredIn s d ctors = declaredBy ctors (datatypesIn (take (d .end) s) (d .at))
 -- the encoder of a section
 unfoldable pub encoderIn : List ℕ → Datatypes → Encoder
 encoderIn s d = encoder (datatypesIn (take (d .end) s) (d .at))
+
+-- Where the section decodes it is the encoder of its datatypes. (proofs/Sorts.antt: encoder-is)
+abbrev pub EncoderIs : Type 0
+EncoderIs =
+    (s : List ℕ) (d : Datatypes) (ds : List DataDecl) (q : ℕ) → section datatype (take (d .end) s) (d .at) ≡ got ds q → encoderIn s d ≡ encoder ds
 
 -- what an applied sort is made by
 abbrev pub ctorOf : List ℕ → code.SortCtor → SortCtor

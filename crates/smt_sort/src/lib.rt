@@ -1,18 +1,18 @@
 // Writers of sorts. A writer reads any bytes at any position, sends what it writes to the output and asks nothing: where a piece is
 // decoded, it sends the piece's text and ends behind the piece.
 use output::Out;
+use smt_word::Sent;
 use task::SortNode;
 use task::Span;
 use task::SpanRead;
 use task_check::Walked;
 ghost use mathlib.Core.Path.{_≡_};
 ghost use mathlib.Core.List.{[], _∷_};
-ghost use Rattle.smtlib.specs.Compose.{decimal};
 ghost use Rattle.task.specs.Ast.{Sorts};
 ghost use Rattle.task.specs.Decode.{many, binder, decSort};
 ghost use Rattle.task.specs.Fault.{isOne};
 ghost use Rattle.task.specs.Node.{bytesOf, sortOf};
-ghost use Rattle.smt_text.specs.Text.{write-parameter as parameterText, write-sort-ctor, write-sort, write-binder};
+ghost use Rattle.smt_text.specs.Text.{write-sort-ctor, write-sort, write-binder};
 ghost use Rattle.output.specs.Emit.{output, emits, Sends};
 ghost use Rattle.smt_sort.specs.Section.{declaredIn, encoderIn, ctorOf, sortsText, sortList, appliedText, bindersText, binderList};
 
@@ -20,12 +20,6 @@ ghost use Rattle.smt_sort.specs.Section.{declaredIn, encoderIn, ctorOf, 
 pub struct Datatypes {
     pub at: usize,
     pub end: usize,
-}
-
-// Where a writer ended, and the output then.
-pub struct Sent {
-    pub at: usize,
-    pub out: Out,
 }
 
 // What an applied sort is made by.
@@ -49,31 +43,6 @@ pub fn is_declared(s: &[u8], types: Datatypes, x: Span, ctors: bool) -> bool
         return item_check::is_ctor(section, types.at, name);
     }
     item_check::is_datatype(section, types.at, name)
-}
-
-// Sends a word.
-pub fn write_word(word: &[u8], p: usize, buf: &mut [u8], out: Out) -> Sent
-    ensures { λ r. ⌜ (r .at ≡ p) × (output (now (buf .exit)) (r .out .len) ≡ emits (output (now (buf .entry)) (out .len)) (now (word .entry))) ⌝ }
-{
-    let sent = out.bytes(buf, word);
-    Sent { at: p, out: sent }
-}
-
-// Sends a number.
-pub fn write_number(n: u64, p: usize, buf: &mut [u8], out: Out) -> Sent
-    ensures { λ r. ⌜ (r .at ≡ p) × (output (now (buf .exit)) (r .out .len) ≡ emits (output (now (buf .entry)) (out .len)) (decimal n)) ⌝ }
-{
-    let sent = out.number(buf, n);
-    Sent { at: p, out: sent }
-}
-
-// Sends parameter i of a datatype.
-pub fn write_parameter(i: u64, p: usize, buf: &mut [u8], out: Out) -> Sent
-    ensures { λ r. ⌜ (r .at ≡ p) × (output (now (buf .exit)) (r .out .len) ≡ emits (output (now (buf .entry)) (out .len)) (parameterText i)) ⌝ }
-{
-    let opened = out.byte(buf, b'T');
-    let sent = opened.number(buf, i);
-    Sent { at: p, out: sent }
 }
 
 // Sends what an applied sort is made by.
@@ -104,13 +73,13 @@ pub fn write_sort(
     let below = levels - 1;
     let node = task::read_sort_node(s, at);
     match node {
-        SortNode::Int(p) => write_word(b"Int", p, buf, out),
-        SortNode::Bool(p) => write_word(b"Bool", p, buf, out),
-        SortNode::Real(p) => write_word(b"Real", p, buf, out),
-        SortNode::Str(p) => write_word(b"String", p, buf, out),
+        SortNode::Int(p) => smt_word::write_word(b"Int", p, buf, out),
+        SortNode::Bool(p) => smt_word::write_word(b"Bool", p, buf, out),
+        SortNode::Real(p) => smt_word::write_word(b"Real", p, buf, out),
+        SortNode::Str(p) => smt_word::write_word(b"String", p, buf, out),
         SortNode::BitVec(p) => write_bit_vec(s, p, below, types, buf, out),
-        SortNode::BvSize(n, p) => write_number(n, p, buf, out),
-        SortNode::Var(i, p) => write_parameter(i, p, buf, out),
+        SortNode::BvSize(n, p) => smt_word::write_number(n, p, buf, out),
+        SortNode::Var(i, p) => smt_word::write_parameter(i, p, buf, out),
         SortNode::Func(p) => write_array(s, p, below, types, buf, out),
         SortNode::Abs(_, p) => write_sort(s, p, below, types, buf, out),
         SortNode::Set(n, p) => write_applied(s, SortCtor::Set, n, p, below, types, buf, out),
@@ -213,7 +182,7 @@ fn write_data(
     let Walked::Next(p, _) = sorts else {
         return Sent { at, out };
     };
-    write_word(b"Int", p, buf, out)
+    smt_word::write_word(b"Int", p, buf, out)
 }
 
 // Sends n sorts, a space before each.
@@ -254,7 +223,7 @@ pub fn write_sort_list(
     ensures { λ r. ⌜ Sends (sortList (encoderIn (now (s .entry)) types)) (many Sorts.none Sorts.more (decSort levels) n (now (s .entry)) at) (output (now (buf .entry)) (out .len)) (output (now (buf .exit)) (r .out .len)) (r .at) ⌝ }
 {
     if n == 0 {
-        return write_word(b"()", at, buf, out);
+        return smt_word::write_word(b"()", at, buf, out);
     }
     let opened = out.byte(buf, b'(');
     let first = write_sort(s, at, levels, types, buf, opened);
@@ -332,7 +301,7 @@ pub fn write_binder_list(
     ensures { λ r. ⌜ Sends (binderList (encoderIn (now (s .entry)) types)) (many [] _∷_ (binder levels) n (now (s .entry)) at) (output (now (buf .entry)) (out .len)) (output (now (buf .exit)) (r .out .len)) (r .at) ⌝ }
 {
     if n == 0 {
-        return write_word(b"()", at, buf, out);
+        return smt_word::write_word(b"()", at, buf, out);
     }
     let opened = out.byte(buf, b'(');
     let first = write_binder(s, at, levels, types, buf, opened);

@@ -1,2 +1,3 @@
 pub mod Spelling
 pub mod Bounds
+pub mod Examples

@@ -1,7 +1,6 @@
 -- What is called for: the tokens and lists of sorts, expressions, predicates and declarations, from the tree. A name is a symbol, a
 -- number a numeral, a string a string; a fixed word is the reserved word or the symbol that it is.
 use Prim.Native.Nat.{ℕ, zero, suc}
-use Prim.Native.Char.{code}
 use Prim.Native.String.{String}
 use mathlib.Core.Bool.{Bool, true, false, cond}
 use mathlib.Core.List.{List, [], _∷_, _++_}

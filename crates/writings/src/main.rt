@@ -3,7 +3,7 @@
 use libc::STDOUT_FILENO;
 use output::Out;
 use smt_sort::Datatypes;
-use smt_sort::Sent;
+use smt_word::Sent;
 use task::Number;
 ghost use Prim.Native.Nat.{_≤_};
 

@@ -1,16 +1,16 @@
 -- The cycle of the expression writers meets its contracts; the levels left fall.
 use borrow.Author.Needs.{needs}
 use Prim.Native.Nat.{_+_, _*_}
-use mathlib.Core.Path.{_≡_, refl, _∙_}
+use mathlib.Core.Path.{_≡_, refl}
 use lib.ListN.{length}
-use Rattle.task.specs.Ast.{Constant, Expr, Exprs}
-use Rattle.task.specs.Decode.{many, decExpr}
+use Rattle.task.specs.Ast.{Constant, Expr}
+use Rattle.task.specs.Decode.{decExpr}
 use Rattle.task.specs.Node.{exprOf}
 use Rattle.smt_text.specs.Text.{write-bin-op, write-expr, write-exprs}
 use Rattle.output.specs.Emit.{output, emits}
 use Rattle.output.proofs.Sending.{Owes, owes-start, owes-more, owes-end}
 use Rattle.smt_sort.specs.Section.{encoderIn}
-use Rattle.smt_expr.specs.Parts.{two, exprsText, unaryText, binaryText, atomText, naryText}
+use Rattle.smt_expr.specs.Parts.{exprsText, unaryText, binaryText, atomText, naryText}
 use Rattle.smt_expr.proofs.Exprs.{exprs-row, expr-none, expr-arm, expr-leaf, expr-of, pair-of, refused-sends, unary-sends, binary-sends, op-is, rel-is, ne-sends, empty-sends, nary-sends, ite-sends, let-sends, is-ctor-sends, quantifier-sends, as-sends, unqualified-sends, unsorted-sends, no-sort, no-head, no-count, bare-sends, app-sends}
 use Prim.Native.Nat.{ℕ, _<_}
 use borrow.Fn.Kinds.{In}
@@ -61,17 +61,17 @@ use Rattle.output.proofs.Out.byte.Reads as byte-reads
 use Rattle.output.proofs.Out.bytes.Reads as bytes-reads
 use Rattle.output.proofs.Out.name.Reads as name-reads
 use Rattle.smt_expr.proofs.is_qualified.Reads as is-qualified-reads
-use Rattle.smt_expr.proofs.open_quantifier.Reads as open-quantifier-reads
-use Rattle.smt_expr.proofs.write_bit_vec.Reads as write-bit-vec-reads
-use Rattle.smt_expr.proofs.write_boolean.Reads as write-boolean-reads
-use Rattle.smt_expr.proofs.write_function.Reads as write-function-reads
-use Rattle.smt_expr.proofs.write_numeral.Reads as write-numeral-reads
-use Rattle.smt_expr.proofs.write_string.Reads as write-string-reads
-use Rattle.smt_expr.proofs.write_var.Reads as write-var-reads
+use Rattle.smt_word.proofs.open_quantifier.Reads as open-quantifier-reads
+use Rattle.smt_word.proofs.write_bit_vec.Reads as write-bit-vec-reads
+use Rattle.smt_word.proofs.write_boolean.Reads as write-boolean-reads
+use Rattle.smt_word.proofs.write_function.Reads as write-function-reads
+use Rattle.smt_word.proofs.write_numeral.Reads as write-numeral-reads
+use Rattle.smt_word.proofs.write_string.Reads as write-string-reads
+use Rattle.smt_word.proofs.write_var.Reads as write-var-reads
 use Rattle.smt_sort.proofs.write_binder_list.Reads as write-binder-list-reads
-use Rattle.smt_sort.proofs.write_number.Reads as write-number-reads
+use Rattle.smt_word.proofs.write_number.Reads as write-number-reads
 use Rattle.smt_sort.proofs.write_sort.Reads as write-sort-reads
-use Rattle.smt_sort.proofs.write_word.Reads as write-word-reads
+use Rattle.smt_word.proofs.write_word.Reads as write-word-reads
 use Rattle.task.proofs.number_at.Reads as number-at-reads
 use Rattle.task.proofs.read_expr_node.Reads as read-expr-node-reads
 use Rattle.task_check.proofs.check_expr.Reads as check-expr-reads

@@ -1,7 +1,6 @@
 -- `write_parameters`: each turn sends a space and the next parameter.
 use borrow.Author.Needs.{needs}
-use native.Mathlib.Omega.{arith}
-use Prim.Native.Nat.{_-_, _≤_}
+use Prim.Native.Nat.{_-_}
 use mathlib.Core.Path.{_≡_, refl}
 use lib.ListN.{length}
 use Rattle.output.specs.Emit.{output}

@@ -1,9 +1,9 @@
 -- The cycle of the sort writers meets its contracts; the levels left fall.
 use borrow.Author.Needs.{needs}
 use Prim.Native.Nat.{_+_, _*_}
-use mathlib.Core.Path.{_≡_, refl, _∙_}
+use mathlib.Core.Path.{_≡_, refl}
 use lib.ListN.{length}
-use Rattle.task.specs.Ast.{Sort, Sorts}
+use Rattle.task.specs.Ast.{Sort}
 use Rattle.task.specs.Decode.{decSort}
 use Rattle.task.specs.Node.{sortOf}
 use Rattle.smt_text.specs.Text.{write-sort}
@@ -35,10 +35,10 @@ use Rattle.smt_sort.proofs.+write_applied+write_array+write_bit_vec+wri
 use Rattle.output.proofs.Out.byte.Reads as byte-reads
 use Rattle.output.proofs.Out.bytes.Reads as bytes-reads
 use Rattle.smt_sort.proofs.is_declared.Reads as is-declared-reads
-use Rattle.smt_sort.proofs.write_number.Reads as write-number-reads
-use Rattle.smt_sort.proofs.write_parameter.Reads as write-parameter-reads
+use Rattle.smt_word.proofs.write_number.Reads as write-number-reads
+use Rattle.smt_word.proofs.write_parameter.Reads as write-parameter-reads
 use Rattle.smt_sort.proofs.write_sort_ctor.Reads as write-sort-ctor-reads
-use Rattle.smt_sort.proofs.write_word.Reads as write-word-reads
+use Rattle.smt_word.proofs.write_word.Reads as write-word-reads
 use Rattle.task.proofs.read_sort_node.Reads as read-sort-node-reads
 use Rattle.task_check.proofs.check_sorts.Reads as check-sorts-reads
 use Rattle.smt_sort.proofs.+write_applied+write_array+write_bit_vec+write_data+write_sort+write_sorts.{

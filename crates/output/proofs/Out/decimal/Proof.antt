@@ -1,5 +1,4 @@
 use borrow.Author.Needs.{needs}
-use native.Mathlib.Omega.{arith}
 use mathlib.Core.Path.{ap, _∙_}
 use Rattle.output.specs.Emit.{emits}
 use Rattle.output.proofs.Decimals.{from-start}

@@ -1,5 +1,5 @@
 use borrow.Author.Needs.{needs}
-use mathlib.Core.Path.{_≡_, sym, ap, _∙_}
+use mathlib.Core.Path.{sym, ap, _∙_}
 use Rattle.output.specs.Emit.{emits}
 use Rattle.output.specs.Names.{entryText}
 use Rattle.output.proofs.Listing.{entry-text}

@@ -5,8 +5,8 @@ use Rattle.smt_text.specs.Text.{write-quantifier}
 use Rattle.task.specs.declared.Quantifier.{Quantifier}
 use Rattle.output.specs.Emit.{emits}
 use borrow.Author.Needs.{needs}
-use Rattle.smt_expr.proofs.open_quantifier.Statement.{statement}
-use Rattle.smt_expr.proofs.open_quantifier.Tie as tie
+use Rattle.smt_word.proofs.open_quantifier.Statement.{statement}
+use Rattle.smt_word.proofs.open_quantifier.Tie as tie
 
 enum-told : tie.Need-enum-told
 enum-told c = search needs

@@ -3,8 +3,8 @@ use mathlib.Core.Path.{refl, ap, _∙_}
 use Rattle.smtlib.specs.Compose.{decimal}
 use Rattle.output.specs.Emit.{Output, emits}
 use borrow.Author.Needs.{needs}
-use Rattle.smt_sort.proofs.write_parameter.Statement.{statement}
-use Rattle.smt_sort.proofs.write_parameter.Tie as tie
+use Rattle.smt_word.proofs.write_parameter.Statement.{statement}
+use Rattle.smt_word.proofs.write_parameter.Tie as tie
 
 byte-requires : tie.Need-byte-requires
 byte-requires c κs = search needs

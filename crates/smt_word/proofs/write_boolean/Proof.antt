@@ -1,11 +1,10 @@
 -- `write_boolean` sends one of two words.
 use mathlib.Core.Path.{sym, ap, _∙_}
-use mathlib.Core.Bool.{Bool}
 use Rattle.smt_text.specs.Text.{write-boolean}
 use Rattle.output.specs.Emit.{emits}
 use borrow.Author.Needs.{needs}
-use Rattle.smt_expr.proofs.write_boolean.Statement.{statement}
-use Rattle.smt_expr.proofs.write_boolean.Tie as tie
+use Rattle.smt_word.proofs.write_boolean.Statement.{statement}
+use Rattle.smt_word.proofs.write_boolean.Tie as tie
 
 slice-aggregate-write-word : tie.Need-slice-aggregate-write-word
 slice-aggregate-write-word c = search needs

@@ -3,8 +3,8 @@ use mathlib.Core.Path.{refl}
 use Rattle.output.specs.Emit.{emits}
 use Rattle.output.proofs.Sent.{emits-append}
 use borrow.Author.Needs.{needs}
-use Rattle.smt_expr.proofs.write_bit_vec.Statement.{statement}
-use Rattle.smt_expr.proofs.write_bit_vec.Tie as tie
+use Rattle.smt_word.proofs.write_bit_vec.Statement.{statement}
+use Rattle.smt_word.proofs.write_bit_vec.Tie as tie
 
 slice-aggregate-bytes : tie.Need-slice-aggregate-bytes
 slice-aggregate-bytes c = search needs
