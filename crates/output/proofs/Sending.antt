@@ -114,20 +114,20 @@ module _ {A R : Type 0} {end : R} {more : A → R → R} {one : A → List ℕ} 
 
   -- a text that has one form for no pieces and another for some
   module _ (form : List (List ℕ) → List ℕ) (n p : ℕ) where
-    pub row-none : (o o' : Output) → n ≡ 0 → o' ≡ emits o (form []) → Sends (λ b. form (all b)) (many end more d n s p) o o' p
-    row-none o o' z v =
-        rw z (sends-end (λ b. form (all b)) o o' p end p refl (v ∙ ap (λ (ws : List (List ℕ)). emits o (form ws)) (sym (row .none))))
+    pub row-none : (o o' : Output) (r : ℕ) → n ≡ 0 → (r ≡ p) × (o' ≡ emits o (form [])) → Sends (λ b. form (all b)) (many end more d n s p) o o' r
+    row-none o o' r z v =
+        rw z (sends-end (λ b. form (all b)) o o' r end p (v .0) (v .1 ∙ ap (λ (ws : List (List ℕ)). emits o (form ws)) (sym (row .none))))
 
     -- behind a word, in parentheses
-    pub row-some : (word : List ℕ) (o o1 o2 o3 : Output) (q : ℕ) → ((w : List ℕ) (ws : List (List ℕ)) → form (w ∷ ws) ≡ sexp-list (word ∷ w ∷ ws)) → (n ≡ 0 → ⊥)
-        → o1 ≡ emits o (40 ∷ word) → Sends (λ b. spaced (all b)) (many end more d n s p) o1 o2 q → o3 ≡ emit o2 41
-        → Sends (λ b. form (all b)) (many end more d n s p) o o3 q
+    pub row-some : (word : List ℕ) (o o1 o2 o3 o4 : Output) (q : ℕ) → ((w : List ℕ) (ws : List (List ℕ)) → form (w ∷ ws) ≡ sexp-list (word ∷ w ∷ ws)) → (n ≡ 0 → ⊥)
+        → o1 ≡ emit o 40 → o2 ≡ emits o1 word → Sends (λ b. spaced (all b)) (many end more d n s p) o2 o3 q → o4 ≡ emit o3 41
+        → Sends (λ b. form (all b)) (many end more d n s p) o o4 q
     unfolding Sends emits
-    row-some word o o1 o2 o3 q h z e1 w e3 b q' e =
+    row-some word o o1 o2 o3 o4 q h z e1 e2 w e4 b q' e =
         let i = by-first n p b q' z e in
         let v = w b q' e in
         let et : all b ≡ one (i .head) ∷ all (i .tail) = ap all (i .made) ∙ row .step (i .head) (i .tail) in
-        (v .0, rw (e3, v .1, e1, et, h) (simp emits-append))
+        (v .0, rw (e4, v .1, e2, e1, et, h) (simp emits-append))
 
     -- in parentheses alone
     pub row-list : (o o1 o2 o3 o4 : Output) (q r : ℕ) → ((w : List ℕ) (ws : List (List ℕ)) → form (w ∷ ws) ≡ sexp-list (w ∷ ws)) → (n ≡ 0 → ⊥)

@@ -26,12 +26,12 @@ use Rattle.task_check.specs.declared.Walked.the-variants as walked-is
 use Rattle.task_check.specs.Walk.{walked}
 use Rattle.task_check.proofs.Rows.{next-is, refused-is}
 use Rattle.smt_text.specs.Encoder.{Encoder, isQualified}
-use Rattle.smt_text.specs.Text.{applied, write-name, write-nary, write-bin-op, write-quantifier, write-as, write-application-head, write-sort, write-expr, write-exprs}
+use Rattle.smt_text.specs.Text.{applied, write-name, write-bin-op, write-quantifier, write-as, write-application-head, write-sort, write-expr, write-exprs}
 use Rattle.output.specs.Emit.{Output, emit, emits, Sends}
 use Rattle.output.proofs.Sent.{emits-append}
 use Rattle.output.proofs.Sending.{sends-refused, sends-end, sends-then, sends-map, Row, row-none, row-some}
 use Rattle.smt_sort.specs.Section.{binderList}
-use Rattle.smt_expr.specs.Parts.{two, exprsText, unaryText, binaryText, atomText, naryText, TellsQualified, HeadSends}
+use Rattle.smt_expr.specs.Parts.{two, exprsText, unaryText, binaryText, atomText, TellsQualified, HeadSends}
 
 pub exprs-row : (enc : Encoder) → Row Exprs.none Exprs.more (write-expr enc) (write-exprs enc)
 unfolding write-expr write-exprs
@@ -114,20 +114,6 @@ module _ (enc : Encoder) (s : List ℕ) (l p : ℕ) (o : Output) where
   ne-sends o1 o2 o3 q e1 w e3 a u e =
       let v = w a u e in
       (v .0, rw (e3, v .1, e1) (simp emits-append))
-
-  -- a connective without members, and with some
-  pub empty-sends : (op empty : List ℕ) (n : ℕ) (o' : Output) (r : ℕ) → n ≡ 0 → (r ≡ p) × (o' ≡ emits o empty)
-      → Sends (naryText enc op empty) (many Exprs.none Exprs.more (decExpr l) n s p) o o' r
-  unfolding naryText
-  empty-sends op empty n o' r z w = rw (w .0) (row-none (exprs-row enc) (decExpr l) s (λ ws. write-nary op ws empty) n p o o' z (w .1))
-
-  pub nary-sends : (op empty : List ℕ) (n : ℕ) (o1 o2 o3 o4 : Output) (q : ℕ) → (n ≡ 0 → ⊥) → o1 ≡ emit o 40 → o2 ≡ emits o1 op
-      → Sends (exprsText enc) (many Exprs.none Exprs.more (decExpr l) n s p) o2 o3 q → o4 ≡ emit o3 41
-      → Sends (naryText enc op empty) (many Exprs.none Exprs.more (decExpr l) n s p) o o4 q
-  unfolding naryText exprsText emits
-  nary-sends op empty n o1 o2 o3 o4 q z e1 e2 w e4 =
-      row-some (exprs-row enc) (decExpr l) s (λ ws. write-nary op ws empty) n p op o o2 o3 o4 q (λ w ws. refl) z
-      (e2 ∙ ap (λ (u : Output). emits u op) e1) w e4
 
   pub ite-sends : (o1 o2 o3 o4 o5 o6 o7 : Output) (q r t : ℕ) → o1 ≡ emits o (bytes "(ite ") → Sends (write-expr enc) (decExpr l s p) o1 o2 q → o3 ≡ emit o2 32
       → Sends (write-expr enc) (decExpr l s q) o3 o4 r → o5 ≡ emit o4 32 → Sends (write-expr enc) (decExpr l s r) o5 o6 t → o7 ≡ emit o6 41
@@ -242,7 +228,7 @@ module _ (enc : Encoder) (s : List ℕ) (l : ℕ) (has : Bool) (p : ℕ) (o : Ou
         unfolding HeadSends Sends
         bare-sends o' r e k =
             by-args o' u (λ b h eb eh.
-            row-none (exprs-row enc) (decExpr l) s (applied (write-application-head enc h (write-expr enc h) b)) n u o o' e (k b q eb h t eh .1))
+            row-none (exprs-row enc) (decExpr l) s (applied (write-application-head enc h (write-expr enc h) b)) n u o o' u e (refl, k b q eb h t eh .1))
 
         pub app-sends : (o1 o2 o3 o4 : Output) (r r' : ℕ) → (n ≡ 0 → ⊥) → o1 ≡ emit o 40 → HeadSends enc (given l has s p) (decExpr l s q) o1 o2 r
             → Sends (exprsText enc) (many Exprs.none Exprs.more (decExpr l) n s u) o2 o3 r' → o4 ≡ emit o3 41
@@ -251,4 +237,4 @@ module _ (enc : Encoder) (s : List ℕ) (l : ℕ) (has : Bool) (p : ℕ) (o : Ou
         app-sends o1 o2 o3 o4 r r' e e1 k w' e4 =
             by-args o4 r' (λ b h eb eh.
             row-some (exprs-row enc) (decExpr l) s (applied (write-application-head enc h (write-expr enc h) b)) n u (write-application-head enc h (write-expr enc h) b)
-            o o2 o3 o4 r' (λ w ws. refl) e (k b q eb h t eh .1 ∙ ap (λ (x : Output). emits x (write-application-head enc h (write-expr enc h) b)) e1) w' e4)
+            o o1 o2 o3 o4 r' (λ w ws. refl) e e1 (k b q eb h t eh .1) w' e4)

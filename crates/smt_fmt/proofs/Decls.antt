@@ -20,28 +20,12 @@ use Rattle.task.specs.Ast.{Sorts, Expr, Exprs, Pred}
 use Rattle.task.specs.Decode.{Res, bind, number, many, name, binder, decSort, decExpr, decPred, dataCtor, datatype, constant, kvar, deepest}
 use Rattle.task.specs.Node.{numberOf, bytesOf, spanOf, predOf, PredAt}
 use Rattle.smt_text.specs.Encoder.{Encoder}
-use Rattle.smt_text.specs.Text.{spaced, sexp-list, applied, write-name, write-parameter, write-sort, write-expr, write-pred, write-ctor, write-ctors, write-parameters, write-datatype-decl, write-const-decl, write-kvar-decl}
+use Rattle.smt_text.specs.Text.{spaced, sexp-list, write-name, write-parameter, write-sort, write-expr, write-pred, write-ctor, write-ctors, write-parameters, write-datatype-decl, write-const-decl, write-kvar-decl}
 use Rattle.output.specs.Emit.{Output, emit, emits, Sends}
 use Rattle.output.proofs.Sent.{emits-append}
-use Rattle.output.proofs.Sending.{sends-refused, sends-end, sends-then, sends-map, Row, row-none, row-some, row-list}
+use Rattle.output.proofs.Sending.{sends-refused, sends-end, sends-then, sends-map, Row}
 use Rattle.smt_sort.specs.Section.{sortList, bindersText}
-use Rattle.smt_expr.specs.Parts.{exprsText}
-use Rattle.smt_expr.proofs.Exprs.{exprs-row}
-use Rattle.smt_fmt.specs.Items.{kvarText, ctorsText, ctorList, bodyText, openText, openingText, SignatureSends}
-
--- a KVar without arguments, and with some
-module _ (enc : Encoder) (x : List ℕ) (l : ℕ) (s : List ℕ) (n p : ℕ) (o : Output) where
-  pub kvar-bare : (o' : Output) → n ≡ 0 → o' ≡ emits o (write-name x) → Sends (kvarText enc x) (many Exprs.none Exprs.more (decExpr l) n s p) o o' p
-  unfolding kvarText
-  kvar-bare o' z e = row-none (exprs-row enc) (decExpr l) s (applied (write-name x)) n p o o' z e
-
-  pub kvar-some : (o1 o2 o3 o4 : Output) (q : ℕ) → (n ≡ 0 → ⊥) → o1 ≡ emit o 40 → o2 ≡ emits o1 (write-name x)
-      → Sends (exprsText enc) (many Exprs.none Exprs.more (decExpr l) n s p) o2 o3 q → o4 ≡ emit o3 41
-      → Sends (kvarText enc x) (many Exprs.none Exprs.more (decExpr l) n s p) o o4 q
-  unfolding kvarText exprsText emits
-  kvar-some o1 o2 o3 o4 q z e1 e2 w e4 =
-      row-some (exprs-row enc) (decExpr l) s (applied (write-name x)) n p (write-name x) o o2 o3 o4 q (λ w ws. refl) z
-      (e2 ∙ ap (λ (u : Output). emits u (write-name x)) e1) w e4
+use Rattle.smt_fmt.specs.Items.{kvarText, ctorList, bodyText, openText, openingText, SignatureSends}
 
 -- a predicate by its node
 pub pred-none : (enc : Encoder) (l : ℕ) (s : List ℕ) (at : ℕ) (o o' : Output) (r : ℕ) → l ≡ 0 → Sends (write-pred enc) (decPred l s at) o o' r
@@ -96,35 +80,18 @@ pub ctors-row : (enc : Encoder) → Row [] _∷_ (write-ctor enc) (write-ctors e
 ctors-row enc = record { none = refl; step = λ c cs. refl }
 
 -- a constructor with its fields
-module _ (enc : Encoder) (s : List ℕ) (at : ℕ) (o : Output) (v : SpanRead) (h : name s at ≡ spanOf s v) where
-  pub ctor-unnamed : (o' : Output) (r : ℕ) → v ≡ span-is.Refused → Sends (write-ctor enc) (dataCtor s at) o o' r
-  ctor-unnamed o' r e = no-name (write-ctor enc) s at o o' r v h _ e
+module _ (enc : Encoder) (s : List ℕ) (at : ℕ) (o : Output) (v : SpanRead) (h : name s at ≡ spanOf s v) (x : Span) (p : ℕ) (e : v ≡ span-is.At x p) (c : Number) (h' : number 2 s p ≡ numberOf c) where
+  pub ctor-sends : (n q : ℕ) (o1 o2 o3 o4 : Output) (r : ℕ) → c ≡ number-is.Value n q → o1 ≡ emit o 40 → o2 ≡ emits o1 (write-name (bytesOf s x))
+      → Sends (bindersText enc) (many [] _∷_ (binder deepest) n s q) o2 o3 r → o4 ≡ emit o3 41 → Sends (write-ctor enc) (dataCtor s at) o o4 r
+  unfolding write-ctor bindersText emits
+  ctor-sends n q o1 o2 o3 o4 r e' e1 e2 w e4 =
+      named (write-ctor enc) s at o o4 r v h _ x p e
+      (counted-is (write-ctor enc) s p o o4 r c h' _ _ n q e'
+      (sends-then (write-ctor enc) o o4 r (bindersText enc) (many [] _∷_ (binder deepest) n s q) _ o2 o3 r w (λ fs e'' u.
+      sends-end (write-ctor enc) o o4 r (record { name = bytesOf s x; fields = fs }) r refl (rw (e4, u, e2, e1) (simp emits-append)))))
 
-  module _ (x : Span) (p : ℕ) (e : v ≡ span-is.At x p) (c : Number) (h' : number 2 s p ≡ numberOf c) where
-    pub ctor-uncounted : (o' : Output) (r : ℕ) → c ≡ number-is.Refused → Sends (write-ctor enc) (dataCtor s at) o o' r
-    ctor-uncounted o' r e' = named (write-ctor enc) s at o o' r v h _ x p e (no-count (write-ctor enc) s p o o' r c h' _ _ e')
-
-    pub ctor-sends : (n q : ℕ) (o1 o2 o3 o4 : Output) (r : ℕ) → c ≡ number-is.Value n q → o1 ≡ emit o 40 → o2 ≡ emits o1 (write-name (bytesOf s x))
-        → Sends (bindersText enc) (many [] _∷_ (binder deepest) n s q) o2 o3 r → o4 ≡ emit o3 41 → Sends (write-ctor enc) (dataCtor s at) o o4 r
-    unfolding write-ctor bindersText emits
-    ctor-sends n q o1 o2 o3 o4 r e' e1 e2 w e4 =
-        named (write-ctor enc) s at o o4 r v h _ x p e
-        (counted-is (write-ctor enc) s p o o4 r c h' _ _ n q e'
-        (sends-then (write-ctor enc) o o4 r (bindersText enc) (many [] _∷_ (binder deepest) n s q) _ o2 o3 r w (λ fs e'' u.
-        sends-end (write-ctor enc) o o4 r (record { name = bytesOf s x; fields = fs }) r refl (rw (e4, u, e2, e1) (simp emits-append)))))
-
--- constructors in parentheses
+-- constructors behind the parameters, if there are any
 module _ (enc : Encoder) (s : List ℕ) (n p : ℕ) (o : Output) where
-  pub no-ctors : (o' : Output) (r : ℕ) → n ≡ 0 → (r ≡ p) × (o' ≡ emits o (bytes "()")) → Sends (ctorList enc) (many [] _∷_ dataCtor n s p) o o' r
-  unfolding ctorList
-  no-ctors o' r z w = rw (w .0) (row-none (ctors-row enc) dataCtor s sexp-list n p o o' z (w .1))
-
-  pub some-ctors : (o1 o2 o3 o4 : Output) (q r : ℕ) → (n ≡ 0 → ⊥) → o1 ≡ emit o 40 → Sends (write-ctor enc) (dataCtor s p) o1 o2 q
-      → Sends (ctorsText enc) (many [] _∷_ dataCtor (n - 1) s q) o2 o3 r → o4 ≡ emit o3 41 → Sends (ctorList enc) (many [] _∷_ dataCtor n s p) o o4 r
-  unfolding ctorList ctorsText
-  some-ctors o1 o2 o3 o4 q r z e1 w w' e4 = row-list (ctors-row enc) dataCtor s sexp-list n p o o1 o2 o3 o4 q r (λ w ws. refl) z e1 w w' e4
-
-  -- behind the parameters, if there are any
   pub no-parameters : (vars : ℕ) (o' : Output) (r : ℕ) → vars ≡ 0 → Sends (ctorList enc) (many [] _∷_ dataCtor n s p) o o' r
       → Sends (bodyText enc vars) (many [] _∷_ dataCtor n s p) o o' r
   unfolding bodyText
@@ -170,35 +137,19 @@ pub no-list : (n : ℕ) (o o' : Output) → n ≡ 0 → o' ≡ emits o (bytes "(
 no-list n o o' z e = rw z e
 
 -- a datatype
-module _ (enc : Encoder) (s : List ℕ) (at : ℕ) (o : Output) (v : SpanRead) (h : name s at ≡ spanOf s v) where
-  pub datatype-unnamed : (o' : Output) (r : ℕ) → v ≡ span-is.Refused → Sends (write-datatype-decl enc) (datatype s at) o o' r
-  datatype-unnamed o' r e = no-name (write-datatype-decl enc) s at o o' r v h _ e
-
-  module _ (x : Span) (p : ℕ) (e : v ≡ span-is.At x p) (c : Number) (h' : number 2 s p ≡ numberOf c) where
-    pub datatype-unnumbered : (o' : Output) (r : ℕ) → c ≡ number-is.Refused → Sends (write-datatype-decl enc) (datatype s at) o o' r
-    datatype-unnumbered o' r e' = named (write-datatype-decl enc) s at o o' r v h _ x p e (no-number (write-datatype-decl enc) s p o o' r c h' _ e')
-
-    module _ (vars q : ℕ) (e' : c ≡ number-is.Value vars q) (d : Number) (h'' : number 2 s q ≡ numberOf d) where
-      pub datatype-uncounted : (o' : Output) (r : ℕ) → d ≡ number-is.Refused → Sends (write-datatype-decl enc) (datatype s at) o o' r
-      datatype-uncounted o' r e'' =
-          named (write-datatype-decl enc) s at o o' r v h _ x p e
-          (numbered (write-datatype-decl enc) s p o o' r c h' _ vars q e' (no-count (write-datatype-decl enc) s q o o' r d h'' _ _ e''))
-
-      pub datatype-sends : (n t : ℕ) (o1 o2 o3 : Output) (r : ℕ) → d ≡ number-is.Value n t → o1 ≡ emits o (openText (bytesOf s x) vars)
-          → Sends (bodyText enc vars) (many [] _∷_ dataCtor n s t) o1 o2 r → o3 ≡ emits o2 (bytes "))\n") → Sends (write-datatype-decl enc) (datatype s at) o o3 r
-      unfolding write-datatype-decl bodyText ctorList openText emits
-      datatype-sends n t o1 o2 o3 r e'' e1 w e3 =
-          named (write-datatype-decl enc) s at o o3 r v h _ x p e
-          (numbered (write-datatype-decl enc) s p o o3 r c h' _ vars q e'
-          (counted-is (write-datatype-decl enc) s q o o3 r d h'' _ _ n t e''
-          (sends-then (write-datatype-decl enc) o o3 r (bodyText enc vars) (many [] _∷_ dataCtor n s t) _ o1 o2 r w (λ cs e4 u.
-          sends-end (write-datatype-decl enc) o o3 r (record { name = bytesOf s x; vars = vars; ctors = cs }) r refl (rw (e3, u, e1) (simp emits-append))))))
+module _ (enc : Encoder) (s : List ℕ) (at : ℕ) (o : Output) (v : SpanRead) (h : name s at ≡ spanOf s v) (x : Span) (p : ℕ) (e : v ≡ span-is.At x p) (c : Number) (h' : number 2 s p ≡ numberOf c) (vars q : ℕ) (e' : c ≡ number-is.Value vars q) (d : Number) (h'' : number 2 s q ≡ numberOf d) where
+  pub datatype-sends : (n t : ℕ) (o1 o2 o3 : Output) (r : ℕ) → d ≡ number-is.Value n t → o1 ≡ emits o (openText (bytesOf s x) vars)
+      → Sends (bodyText enc vars) (many [] _∷_ dataCtor n s t) o1 o2 r → o3 ≡ emits o2 (bytes "))\n") → Sends (write-datatype-decl enc) (datatype s at) o o3 r
+  unfolding write-datatype-decl bodyText ctorList openText emits
+  datatype-sends n t o1 o2 o3 r e'' e1 w e3 =
+      named (write-datatype-decl enc) s at o o3 r v h _ x p e
+      (numbered (write-datatype-decl enc) s p o o3 r c h' _ vars q e'
+      (counted-is (write-datatype-decl enc) s q o o3 r d h'' _ _ n t e''
+      (sends-then (write-datatype-decl enc) o o3 r (bodyText enc vars) (many [] _∷_ dataCtor n s t) _ o1 o2 r w (λ cs e4 u.
+      sends-end (write-datatype-decl enc) o o3 r (record { name = bytesOf s x; vars = vars; ctors = cs }) r refl (rw (e3, u, e1) (simp emits-append))))))
 
 -- a constant
 module _ (enc : Encoder) (s : List ℕ) (at : ℕ) (o : Output) (v : SpanRead) (h : name s at ≡ spanOf s v) where
-  pub constant-unnamed : (o' : Output) (r : ℕ) → v ≡ span-is.Refused → Sends (write-const-decl enc) (constant s at) o o' r
-  constant-unnamed o' r e = no-name (write-const-decl enc) s at o o' r v h _ e
-
   pub constant-sends : (x : Span) (p : ℕ) (o1 o2 o3 o4 o5 : Output) (q : ℕ) → v ≡ span-is.At x p → o1 ≡ emits o (bytes "(declare-const ") → o2 ≡ emits o1 (write-name (bytesOf s x))
       → o3 ≡ emit o2 32 → Sends (write-sort enc) (decSort deepest s p) o3 o4 q → o5 ≡ emits o4 (bytes ")\n") → Sends (write-const-decl enc) (constant s at) o o5 q
   unfolding write-const-decl emits
@@ -227,20 +178,13 @@ module _ (enc : Encoder) (s : List ℕ) (x : List ℕ) (n at : ℕ) (o : Output)
       rw (e3, v' .1, v .1) (simp emits-append)
 
 -- a KVar
-module _ (enc : Encoder) (s : List ℕ) (at : ℕ) (o : Output) (v : SpanRead) (h : name s at ≡ spanOf s v) where
-  pub kvar-unnamed : (o' : Output) (r : ℕ) → v ≡ span-is.Refused → Sends (write-kvar-decl enc) (kvar s at) o o' r
-  kvar-unnamed o' r e = no-name (write-kvar-decl enc) s at o o' r v h _ e
-
-  module _ (x : Span) (p : ℕ) (e : v ≡ span-is.At x p) (c : Number) (h' : number 2 s p ≡ numberOf c) where
-    pub kvar-uncounted : (o' : Output) (r : ℕ) → c ≡ number-is.Refused → Sends (write-kvar-decl enc) (kvar s at) o o' r
-    kvar-uncounted o' r e' = named (write-kvar-decl enc) s at o o' r v h _ x p e (no-count (write-kvar-decl enc) s p o o' r c h' _ _ e')
-
-    pub kvar-sends : (n q : ℕ) (o1 o2 : Output) (r : ℕ) → c ≡ number-is.Value n q
-        → Sends (openingText enc (bytesOf s x)) (many Sorts.none Sorts.more (decSort deepest) n s q) o o1 r → o2 ≡ emits o1 (bytes "Bool)\n")
-        → Sends (write-kvar-decl enc) (kvar s at) o o2 r
-    unfolding write-kvar-decl openingText emits
-    kvar-sends n q o1 o2 r e' w e2 =
-        named (write-kvar-decl enc) s at o o2 r v h _ x p e
-        (counted-is (write-kvar-decl enc) s p o o2 r c h' _ _ n q e'
-        (sends-then (write-kvar-decl enc) o o2 r (openingText enc (bytesOf s x)) (many Sorts.none Sorts.more (decSort deepest) n s q) _ o o1 r w (λ bs e'' u.
-        sends-end (write-kvar-decl enc) o o2 r (record { kvid = bytesOf s x; sorts = bs }) r refl (rw (e2, u) (simp emits-append)))))
+module _ (enc : Encoder) (s : List ℕ) (at : ℕ) (o : Output) (v : SpanRead) (h : name s at ≡ spanOf s v) (x : Span) (p : ℕ) (e : v ≡ span-is.At x p) (c : Number) (h' : number 2 s p ≡ numberOf c) where
+  pub kvar-sends : (n q : ℕ) (o1 o2 : Output) (r : ℕ) → c ≡ number-is.Value n q
+      → Sends (openingText enc (bytesOf s x)) (many Sorts.none Sorts.more (decSort deepest) n s q) o o1 r → o2 ≡ emits o1 (bytes "Bool)\n")
+      → Sends (write-kvar-decl enc) (kvar s at) o o2 r
+  unfolding write-kvar-decl openingText emits
+  kvar-sends n q o1 o2 r e' w e2 =
+      named (write-kvar-decl enc) s at o o2 r v h _ x p e
+      (counted-is (write-kvar-decl enc) s p o o2 r c h' _ _ n q e'
+      (sends-then (write-kvar-decl enc) o o2 r (openingText enc (bytesOf s x)) (many Sorts.none Sorts.more (decSort deepest) n s q) _ o o1 r w (λ bs e'' u.
+      sends-end (write-kvar-decl enc) o o2 r (record { kvid = bytesOf s x; sorts = bs }) r refl (rw (e2, u) (simp emits-append)))))

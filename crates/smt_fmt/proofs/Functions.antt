@@ -31,7 +31,7 @@ use Rattle.output.specs.Emit.{Output, emit, emits, Sends}
 use Rattle.output.proofs.Sent.{emits-append}
 use Rattle.output.proofs.Sending.{sends-refused, sends-end}
 use Rattle.smt_fmt.specs.Items.{signed, ArgSends, ZipSends, SignatureSends, DefinedSends, BodySends}
-use Rattle.smt_fmt.proofs.Decls.{no-name, named, no-number, numbered, no-count, counted-is}
+use Rattle.smt_fmt.proofs.Decls.{named, numbered, counted-is}
 
 -- an argument: a name with the sort at another position
 module _ (enc : Encoder) (s : List ℕ) (at from : ℕ) (o : Output) (v : SpanRead) (h : name s at ≡ spanOf s v) where
@@ -291,23 +291,10 @@ any-params enc s x params n at o o' r w a p e =
     (v .0, v .1 ∙ ap (emits o) (same-text enc x params (i .value) (j .value) (m .value)) ∙ ap (λ (d : FunDef). emits o (write-fun-body enc d (d .body))) ea)
 
 -- a function by its name and numbers
-module _ (enc : Encoder) (s : List ℕ) (at : ℕ) (o : Output) (v : SpanRead) (h : name s at ≡ spanOf s v) where
-  pub function-unnamed : (o' : Output) (r : ℕ) → v ≡ span-is.Refused → Sends (write-fun-def enc) (function s at) o o' r
-  function-unnamed o' r e = no-name (write-fun-def enc) s at o o' r v h _ e
-
-  module _ (x : Span) (p : ℕ) (e : v ≡ span-is.At x p) (c : Number) (h' : number 2 s p ≡ numberOf c) where
-    pub function-unnumbered : (o' : Output) (r : ℕ) → c ≡ number-is.Refused → Sends (write-fun-def enc) (function s at) o o' r
-    function-unnumbered o' r e' = named (write-fun-def enc) s at o o' r v h _ x p e (no-number (write-fun-def enc) s p o o' r c h' _ e')
-
-    module _ (params q : ℕ) (e' : c ≡ number-is.Value params q) (d : Number) (h'' : number 2 s q ≡ numberOf d) where
-      pub function-uncounted : (o' : Output) (r : ℕ) → d ≡ number-is.Refused → Sends (write-fun-def enc) (function s at) o o' r
-      function-uncounted o' r e'' =
-          named (write-fun-def enc) s at o o' r v h _ x p e
-          (numbered (write-fun-def enc) s p o o' r c h' _ params q e' (no-count (write-fun-def enc) s q o o' r d h'' _ _ e''))
-
-      pub function-sends : (n t : ℕ) (o' : Output) (r : ℕ) → d ≡ number-is.Value n t → Sends (write-fun-def enc) (signed (bytesOf s x) 0 n s t) o o' r
-          → Sends (write-fun-def enc) (function s at) o o' r
-      function-sends n t o' r e'' w =
-          named (write-fun-def enc) s at o o' r v h _ x p e
-          (numbered (write-fun-def enc) s p o o' r c h' _ params q e'
-          (counted-is (write-fun-def enc) s q o o' r d h'' _ _ n t e'' (any-params enc s (bytesOf s x) params n t o o' r w)))
+module _ (enc : Encoder) (s : List ℕ) (at : ℕ) (o : Output) (v : SpanRead) (h : name s at ≡ spanOf s v) (x : Span) (p : ℕ) (e : v ≡ span-is.At x p) (c : Number) (h' : number 2 s p ≡ numberOf c) (params q : ℕ) (e' : c ≡ number-is.Value params q) (d : Number) (h'' : number 2 s q ≡ numberOf d) where
+  pub function-sends : (n t : ℕ) (o' : Output) (r : ℕ) → d ≡ number-is.Value n t → Sends (write-fun-def enc) (signed (bytesOf s x) 0 n s t) o o' r
+      → Sends (write-fun-def enc) (function s at) o o' r
+  function-sends n t o' r e'' w =
+      named (write-fun-def enc) s at o o' r v h _ x p e
+      (numbered (write-fun-def enc) s p o o' r c h' _ params q e'
+      (counted-is (write-fun-def enc) s q o o' r d h'' _ _ n t e'' (any-params enc s (bytesOf s x) params n t o o' r w)))

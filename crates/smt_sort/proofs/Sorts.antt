@@ -24,13 +24,13 @@ use Rattle.task.specs.Task.{declaredBy}
 use Rattle.item_check.specs.Search.{datatypesIn}
 use Rattle.item_check.proofs.Searches.{meets-all}
 use Rattle.smt_text.specs.Encoder.{Encoder, encoder, isOpaque}
-use Rattle.smt_text.specs.Text.{applied, sexp-list, write-name, write-sort-ctor, write-sort, write-sorts, write-binder, write-binders}
+use Rattle.smt_text.specs.Text.{applied, write-name, write-sort-ctor, write-sort, write-sorts, write-binder, write-binders}
 use Rattle.output.specs.Emit.{Output, emit, emits, Sends}
 use Rattle.output.proofs.Sent.{emits-append}
-use Rattle.output.proofs.Sending.{sends-refused, sends-end, sends-then, sends-map, Row, row-none, row-some, row-list}
+use Rattle.output.proofs.Sending.{sends-refused, sends-end, sends-then, sends-map, Row}
 use Rattle.smt_sort.specs.declared.Datatypes.{Datatypes}
 use Rattle.smt_sort.specs.declared.SortCtor as code
-use Rattle.smt_sort.specs.Section.{declaredIn, encoderIn, EncoderIs, ctorOf, sortsText, sortList, appliedText, bindersText, binderList}
+use Rattle.smt_sort.specs.Section.{declaredIn, encoderIn, EncoderIs, ctorOf, appliedText}
 
 pub sorts-row : (enc : Encoder) → Row Sorts.none Sorts.more (write-sort enc) (write-sorts enc)
 unfolding write-sort write-sorts
@@ -110,19 +110,6 @@ module _ (enc : Encoder) (s : List ℕ) (l p : ℕ) (o : Output) where
   unfolding sortOf write-sort appliedText
   map-sends n o' r w = sends-map (write-sort enc) (Sort.app SortCtor.map) (many Sorts.none Sorts.more (decSort l) n s p) o o' r w
 
-  pub bare-sends : (c : SortCtor) (n : ℕ) (o' : Output) → n ≡ 0 → o' ≡ emits o (write-sort-ctor c)
-      → Sends (appliedText enc c) (many Sorts.none Sorts.more (decSort l) n s p) o o' p
-  unfolding appliedText
-  bare-sends c n o' z e = row-none (sorts-row enc) (decSort l) s (applied (write-sort-ctor c)) n p o o' z e
-
-  pub some-sends : (c : SortCtor) (n : ℕ) (o1 o2 o3 o4 : Output) (q : ℕ) → (n ≡ 0 → ⊥) → o1 ≡ emit o 40 → o2 ≡ emits o1 (write-sort-ctor c)
-      → Sends (sortsText enc) (many Sorts.none Sorts.more (decSort l) n s p) o2 o3 q → o4 ≡ emit o3 41
-      → Sends (appliedText enc c) (many Sorts.none Sorts.more (decSort l) n s p) o o4 q
-  unfolding appliedText sortsText emits
-  some-sends c n o1 o2 o3 o4 q z e1 e2 w e4 =
-      row-some (sorts-row enc) (decSort l) s (applied (write-sort-ctor c)) n p (write-sort-ctor c) o o2 o3 o4 q (λ w ws. refl) z
-      (e2 ∙ ap (λ (u : Output). emits u (write-sort-ctor c)) e1) w e4
-
 -- a datatype that is declared, and one that is not
 module _ (s : List ℕ) (types : Datatypes) (l : ℕ) (x : Span) (n p : ℕ) (o : Output) (t : Bool) (e : t ≡ isOne (bytesOf s x) (declaredIn s types false)) where
   opaque-is : isOpaque (encoderIn s types) (SortCtor.named (bytesOf s x)) ≡ not t
@@ -158,29 +145,6 @@ module _ (s : List ℕ) (types : Datatypes) (l : ℕ) (x : Span) (n p : ℕ) (o 
   unfolding sortOf
   skipped-sends v k o' r e1 e2 =
       rw (refused-is sortsFault (many Sorts.none Sorts.more (decSort l) n s p) k (sym e2 ∙ e1)) (sends-refused (write-sort (encoderIn s types)) o o' r k)
-
--- sorts in parentheses
-module _ (enc : Encoder) (l : ℕ) (s : List ℕ) (n p : ℕ) (o : Output) where
-  pub no-sorts : (o' : Output) (r : ℕ) → n ≡ 0 → (r ≡ p) × (o' ≡ emits o (bytes "()")) → Sends (sortList enc) (many Sorts.none Sorts.more (decSort l) n s p) o o' r
-  unfolding sortList
-  no-sorts o' r z w = rw (w .0) (row-none (sorts-row enc) (decSort l) s sexp-list n p o o' z (w .1))
-
-  pub some-sorts : (o1 o2 o3 o4 : Output) (q r : ℕ) → (n ≡ 0 → ⊥) → o1 ≡ emit o 40 → Sends (write-sort enc) (decSort l s p) o1 o2 q
-      → Sends (sortsText enc) (many Sorts.none Sorts.more (decSort l) (n - 1) s q) o2 o3 r → o4 ≡ emit o3 41
-      → Sends (sortList enc) (many Sorts.none Sorts.more (decSort l) n s p) o o4 r
-  unfolding sortList sortsText
-  some-sorts o1 o2 o3 o4 q r z e1 w w' e4 = row-list (sorts-row enc) (decSort l) s sexp-list n p o o1 o2 o3 o4 q r (λ w ws. refl) z e1 w w' e4
-
-  -- names with their sorts in parentheses
-  pub no-binders : (o' : Output) (r : ℕ) → n ≡ 0 → (r ≡ p) × (o' ≡ emits o (bytes "()")) → Sends (binderList enc) (many [] _∷_ (binder l) n s p) o o' r
-  unfolding binderList
-  no-binders o' r z w = rw (w .0) (row-none (binders-row enc) (binder l) s sexp-list n p o o' z (w .1))
-
-  pub some-binders : (o1 o2 o3 o4 : Output) (q r : ℕ) → (n ≡ 0 → ⊥) → o1 ≡ emit o 40 → Sends (write-binder enc) (binder l s p) o1 o2 q
-      → Sends (bindersText enc) (many [] _∷_ (binder l) (n - 1) s q) o2 o3 r → o4 ≡ emit o3 41
-      → Sends (binderList enc) (many [] _∷_ (binder l) n s p) o o4 r
-  unfolding binderList bindersText
-  some-binders o1 o2 o3 o4 q r z e1 w w' e4 = row-list (binders-row enc) (binder l) s sexp-list n p o o1 o2 o3 o4 q r (λ w ws. refl) z e1 w w' e4
 
 -- a name with its sort
 module _ (enc : Encoder) (l : ℕ) (s : List ℕ) (at : ℕ) (v : SpanRead) (h : name s at ≡ spanOf s v) (o : Output) where

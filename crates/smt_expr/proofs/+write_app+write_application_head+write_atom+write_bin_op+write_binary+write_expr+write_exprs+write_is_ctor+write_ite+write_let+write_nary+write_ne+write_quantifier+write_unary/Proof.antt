@@ -6,12 +6,12 @@ use lib.ListN.{length}
 use Rattle.task.specs.Ast.{Constant, Expr}
 use Rattle.task.specs.Decode.{decExpr}
 use Rattle.task.specs.Node.{exprOf}
-use Rattle.smt_text.specs.Text.{write-bin-op, write-expr, write-exprs}
+use Rattle.smt_text.specs.Text.{write-nary, write-bin-op, write-expr, write-exprs}
 use Rattle.output.specs.Emit.{output, emits}
-use Rattle.output.proofs.Sending.{Owes, owes-start, owes-more, owes-end}
+use Rattle.output.proofs.Sending.{Owes, owes-start, owes-more, owes-end, row-none, row-some}
 use Rattle.smt_sort.specs.Section.{encoderIn}
 use Rattle.smt_expr.specs.Parts.{exprsText, unaryText, binaryText, atomText, naryText}
-use Rattle.smt_expr.proofs.Exprs.{exprs-row, expr-none, expr-arm, expr-leaf, expr-of, pair-of, refused-sends, unary-sends, binary-sends, op-is, rel-is, ne-sends, empty-sends, nary-sends, ite-sends, let-sends, is-ctor-sends, quantifier-sends, as-sends, unqualified-sends, unsorted-sends, no-sort, no-head, no-count, bare-sends, app-sends}
+use Rattle.smt_expr.proofs.Exprs.{exprs-row, expr-none, expr-arm, expr-leaf, expr-of, pair-of, refused-sends, unary-sends, binary-sends, op-is, rel-is, ne-sends, ite-sends, let-sends, is-ctor-sends, quantifier-sends, as-sends, unqualified-sends, unsorted-sends, no-sort, no-head, no-count, bare-sends, app-sends}
 use Prim.Native.Nat.{ℕ, _<_}
 use borrow.Fn.Kinds.{In}
 use borrow.Fn.PlainCycle.{Measures, is, falls, and}
@@ -520,10 +520,12 @@ write-let-returns : (t : ℕ) → write-let-lts.Need-returns (write-let-calls t)
 write-let-returns t c = let-sends _ _ _ _ _ _ _ _ _ _ _ _ _ _ _ (c .before .before .before .before .before .before .before .before .before .before .before .before .before .before .before .before .before .before .before .before .before .before .before .before .before .before .before .before .before .bytes .ensures) (c .before .before .before .before .before .before .before .before .before .before .before .before .before .before .before .before .before .before .before .before .before .before .before .before .before .name .ensures) (c .before .before .before .before .before .before .before .before .before .before .before .before .before .before .before .before .before .before .before .before .before .byte .ensures) (c .before .before .before .before .before .before .before .before .before .before .before .before .before .before .before .before .before .write-expr .ensures) (c .before .before .before .before .before .before .before .before .before .before .before .bytes2 .ensures) (c .before .before .before .before .before .before .before .write-expr2 .ensures) (c .before .before .byte2 .ensures)
 
 write-nary-returns : (t : ℕ) → write-nary-lts.Need-returns (write-nary-calls t) (write-nary-at t) write-nary.Post
-write-nary-returns t c = empty-sends _ _ _ _ _ _ _ _ _ _ (c .before .before .before .before .if1 .taken) (c .before .before .write-word .ensures)
+unfolding naryText
+write-nary-returns t c = row-none (exprs-row _) (decExpr (c .before .before .before .before .before .before .before .before .before .args .levels)) (c .before .before .before .before .before .before .before .before .before .args .s .now) (λ ws. write-nary (c .before .before .before .before .before .before .before .before .before .args .op .now) ws (c .before .before .before .before .before .before .before .before .before .args .empty .now)) (c .before .before .before .before .before .before .before .before .before .args .n) (c .before .before .before .before .before .before .before .before .before .args .at) _ _ _ (c .before .before .before .before .if1 .taken) (c .before .before .write-word .ensures)
 
 write-nary-returns-2 : (t : ℕ) → write-nary-lts.Need-returns-2 (write-nary-calls t) (write-nary-at t) write-nary.Post
-write-nary-returns-2 t c = nary-sends _ _ _ _ _ _ _ _ _ _ _ _ _ (c .before .before .before .before .before .before .before .before .before .before .before .before .before .before .before .before .before .if1 .left) (c .before .before .before .before .before .before .before .before .before .before .before .before .before .before .before .byte .ensures) (c .before .before .before .before .before .before .before .before .before .before .before .bytes .ensures) (c .before .before .before .before .before .before .before .write-exprs .ensures) (c .before .before .byte2 .ensures)
+unfolding naryText exprsText
+write-nary-returns-2 t c = row-some (exprs-row _) (decExpr (c .before .before .before .before .before .before .before .before .before .before .before .before .before .before .before .before .before .before .before .before .before .before .args .levels)) (c .before .before .before .before .before .before .before .before .before .before .before .before .before .before .before .before .before .before .before .before .before .before .args .s .now) (λ ws. write-nary (c .before .before .before .before .before .before .before .before .before .before .before .before .before .before .before .before .before .before .before .before .before .before .args .op .now) ws (c .before .before .before .before .before .before .before .before .before .before .before .before .before .before .before .before .before .before .before .before .before .before .args .empty .now)) (c .before .before .before .before .before .before .before .before .before .before .before .before .before .before .before .before .before .before .before .before .before .before .args .n) (c .before .before .before .before .before .before .before .before .before .before .before .before .before .before .before .before .before .before .before .before .before .before .args .at) _ _ _ _ _ _ _ (λ w ws. refl) (c .before .before .before .before .before .before .before .before .before .before .before .before .before .before .before .before .before .if1 .left) (c .before .before .before .before .before .before .before .before .before .before .before .before .before .before .before .byte .ensures) (c .before .before .before .before .before .before .before .before .before .before .before .bytes .ensures) (c .before .before .before .before .before .before .before .write-exprs .ensures) (c .before .before .byte2 .ensures)
 
 write-ne-returns : (t : ℕ) → write-ne-lts.Need-returns (write-ne-calls t) (write-ne-at t) write-ne.Post
 write-ne-returns t c = ne-sends _ _ _ _ _ _ _ _ _ (c .before .before .before .before .before .before .before .before .before .before .before .before .bytes .ensures) (c .before .before .before .before .before .before .before .write-binary .ensures) (c .before .before .byte .ensures)

@@ -1,5 +1,5 @@
 -- `write_const_decl` sends a name and a sort.
-use Rattle.smt_fmt.proofs.Decls.{constant-unnamed, constant-sends}
+use Rattle.smt_fmt.proofs.Decls.{no-name, constant-sends}
 use borrow.Author.Needs.{needs}
 use Rattle.smt_fmt.proofs.write_const_decl.Statement.{statement}
 use Rattle.smt_fmt.proofs.write_const_decl.Tie as tie
@@ -14,7 +14,7 @@ enum-told : tie.Need-enum-told
 enum-told c = search needs
 
 returns : tie.Need-returns
-returns c = constant-unnamed _ _ _ _ _ (c .before .before .read-name .ensures) _ _ (c .enum-told .given .1)
+returns c = no-name _ _ _ _ _ _ _ (c .before .before .read-name .ensures) _ (c .enum-told .given .1)
 
 slice-aggregate-bytes : tie.Need-slice-aggregate-bytes
 slice-aggregate-bytes c = search needs

@@ -1,5 +1,5 @@
 -- `write_ctor` sends a name and its fields.
-use Rattle.smt_fmt.proofs.Decls.{ctor-unnamed, ctor-uncounted, ctor-sends}
+use Rattle.smt_fmt.proofs.Decls.{no-name, named, no-count, ctor-sends}
 use borrow.Author.Needs.{needs}
 use Rattle.smt_fmt.proofs.write_ctor.Statement.{statement}
 use Rattle.smt_fmt.proofs.write_ctor.Tie as tie
@@ -14,7 +14,7 @@ enum-told : tie.Need-enum-told
 enum-told c = search needs
 
 returns : tie.Need-returns
-returns c = ctor-unnamed _ _ _ _ _ (c .before .before .read-name .ensures) _ _ (c .enum-told .given .1)
+returns c = no-name _ _ _ _ _ _ _ (c .before .before .read-name .ensures) _ (c .enum-told .given .1)
 
 number-at-requires : tie.Need-number-at-requires
 number-at-requires c κs = search needs
@@ -26,7 +26,7 @@ enum-told-2 : tie.Need-enum-told-2
 enum-told-2 c = search needs
 
 returns-2 : tie.Need-returns-2
-returns-2 c = ctor-uncounted _ _ _ _ _ (c .before .before .before .before .before .before .read-name .ensures) _ _ (c .before .before .before .before .read .given .1) _ (c .before .before .number-at .ensures) _ _ (c .enum-told2 .given .1)
+returns-2 c = named _ _ _ _ _ _ _ (c .before .before .before .before .before .before .read-name .ensures) _ _ _ (c .before .before .before .before .read .given .1) (no-count _ _ _ _ _ _ _ (c .before .before .number-at .ensures) _ _ (c .enum-told2 .given .1))
 
 byte-requires : tie.Need-byte-requires
 byte-requires c κs = search needs

@@ -1,5 +1,10 @@
 -- `write_datatype_ctors` sends the first constructor and then the others.
-use Rattle.smt_fmt.proofs.Decls.{no-ctors, some-ctors}
+use mathlib.Core.Path.{refl}
+use Rattle.task.specs.Decode.{dataCtor}
+use Rattle.smt_text.specs.Text.{sexp-list}
+use Rattle.output.proofs.Sending.{row-none, row-list}
+use Rattle.smt_fmt.specs.Items.{ctorsText, ctorList}
+use Rattle.smt_fmt.proofs.Decls.{ctors-row}
 use borrow.Author.Needs.{needs}
 use Rattle.smt_fmt.proofs.write_datatype_ctors.Statement.{statement}
 use Rattle.smt_fmt.proofs.write_datatype_ctors.Tie as tie
@@ -14,7 +19,8 @@ same-length : tie.Need-same-length
 same-length c = search needs
 
 returns : tie.Need-returns
-returns c = search no-ctors
+unfolding ctorList
+returns c = row-none (ctors-row _) dataCtor (c .before .before .before .before .before .before .before .before .args .s .now) sexp-list (c .before .before .before .before .before .before .before .before .args .n) (c .before .before .before .before .before .before .before .before .args .at) _ _ _ (c .before .before .before .before .before .if1 .taken) (c .before .before .write-word .ensures)
 
 byte-requires : tie.Need-byte-requires
 byte-requires c κs = search needs
@@ -35,7 +41,8 @@ same-length-2 : tie.Need-same-length-2
 same-length-2 c = search needs
 
 returns-2 : tie.Need-returns-2
-returns-2 c = search some-ctors
+unfolding ctorList ctorsText
+returns-2 c = row-list (ctors-row _) dataCtor (c .before .before .before .before .before .before .before .before .before .before .before .before .before .before .before .before .before .before .before .before .before .args .s .now) sexp-list (c .before .before .before .before .before .before .before .before .before .before .before .before .before .before .before .before .before .before .before .before .before .args .n) (c .before .before .before .before .before .before .before .before .before .before .before .before .before .before .before .before .before .before .before .before .before .args .at) _ _ _ _ _ _ _ (λ w ws. refl) (c .before .before .before .before .before .before .before .before .before .before .before .before .before .before .before .before .before .before .if1 .left) (c .before .before .before .before .before .before .before .before .before .before .before .before .before .before .before .before .byte .ensures) (c .before .before .before .before .before .before .before .before .before .before .before .before .write-ctor .ensures) (c .before .before .before .before .before .before .before .write-ctors .ensures) (c .before .before .byte2 .ensures)
 
 pub write-datatype-ctors-spec : {M : Type 1} → statement M
 write-datatype-ctors-spec =

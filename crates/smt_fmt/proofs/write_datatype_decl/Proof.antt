@@ -1,5 +1,5 @@
 -- `write_datatype_decl` sends the opening and the body.
-use Rattle.smt_fmt.proofs.Decls.{datatype-unnamed, datatype-unnumbered, datatype-uncounted, datatype-sends}
+use Rattle.smt_fmt.proofs.Decls.{no-name, named, no-number, numbered, no-count, datatype-sends}
 use borrow.Author.Needs.{needs}
 use Rattle.smt_fmt.proofs.write_datatype_decl.Statement.{statement}
 use Rattle.smt_fmt.proofs.write_datatype_decl.Tie as tie
@@ -14,7 +14,7 @@ enum-told : tie.Need-enum-told
 enum-told c = search needs
 
 returns : tie.Need-returns
-returns c = datatype-unnamed _ _ _ _ _ (c .before .before .read-name .ensures) _ _ (c .enum-told .given .1)
+returns c = no-name _ _ _ _ _ _ _ (c .before .before .read-name .ensures) _ (c .enum-told .given .1)
 
 number-at-requires : tie.Need-number-at-requires
 number-at-requires c κs = search needs
@@ -26,7 +26,7 @@ enum-told-2 : tie.Need-enum-told-2
 enum-told-2 c = search needs
 
 returns-2 : tie.Need-returns-2
-returns-2 c = datatype-unnumbered _ _ _ _ _ (c .before .before .before .before .before .before .read-name .ensures) _ _ (c .before .before .before .before .read .given .1) _ (c .before .before .number-at .ensures) _ _ (c .enum-told2 .given .1)
+returns-2 c = named _ _ _ _ _ _ _ (c .before .before .before .before .before .before .read-name .ensures) _ _ _ (c .before .before .before .before .read .given .1) (no-number _ _ _ _ _ _ _ (c .before .before .number-at .ensures) _ (c .enum-told2 .given .1))
 
 number-at-requires-2 : tie.Need-number-at-requires-2
 number-at-requires-2 c κs = search needs
@@ -38,7 +38,7 @@ enum-told-3 : tie.Need-enum-told-3
 enum-told-3 c = search needs
 
 returns-3 : tie.Need-returns-3
-returns-3 c = datatype-uncounted _ _ _ _ _ (c .before .before .before .before .before .before .before .before .before .before .read-name .ensures) _ _ (c .before .before .before .before .before .before .before .before .read .given .1) _ (c .before .before .before .before .before .before .number-at .ensures) _ _ (c .before .before .before .before .parameters .given .1) _ (c .before .before .number-at2 .ensures) _ _ (c .enum-told3 .given .1)
+returns-3 c = named _ _ _ _ _ _ _ (c .before .before .before .before .before .before .before .before .before .before .read-name .ensures) _ _ _ (c .before .before .before .before .before .before .before .before .read .given .1) (numbered _ _ _ _ _ _ _ (c .before .before .before .before .before .before .number-at .ensures) _ _ _ (c .before .before .before .before .parameters .given .1) (no-count _ _ _ _ _ _ _ (c .before .before .number-at2 .ensures) _ _ (c .enum-told3 .given .1)))
 
 open-datatype-requires : tie.Need-open-datatype-requires
 open-datatype-requires c κs = search needs

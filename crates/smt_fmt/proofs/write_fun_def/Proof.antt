@@ -1,5 +1,6 @@
 -- `write_fun_def` reads the name and the numbers before the inputs.
-use Rattle.smt_fmt.proofs.Functions.{function-unnamed, function-unnumbered, function-uncounted, function-sends}
+use Rattle.smt_fmt.proofs.Decls.{no-name, named, no-number, numbered, no-count}
+use Rattle.smt_fmt.proofs.Functions.{function-sends}
 use borrow.Author.Needs.{needs}
 use Rattle.smt_fmt.proofs.write_fun_def.Statement.{statement}
 use Rattle.smt_fmt.proofs.write_fun_def.Tie as tie
@@ -14,7 +15,7 @@ enum-told : tie.Need-enum-told
 enum-told c = search needs
 
 returns : tie.Need-returns
-returns c = function-unnamed _ _ _ _ _ (c .before .before .read-name .ensures) _ _ (c .enum-told .given .1)
+returns c = no-name _ _ _ _ _ _ _ (c .before .before .read-name .ensures) _ (c .enum-told .given .1)
 
 number-at-requires : tie.Need-number-at-requires
 number-at-requires c κs = search needs
@@ -26,7 +27,7 @@ enum-told-2 : tie.Need-enum-told-2
 enum-told-2 c = search needs
 
 returns-2 : tie.Need-returns-2
-returns-2 c = function-unnumbered _ _ _ _ _ (c .before .before .before .before .before .before .read-name .ensures) _ _ (c .before .before .before .before .read .given .1) _ (c .before .before .number-at .ensures) _ _ (c .enum-told2 .given .1)
+returns-2 c = named _ _ _ _ _ _ _ (c .before .before .before .before .before .before .read-name .ensures) _ _ _ (c .before .before .before .before .read .given .1) (no-number _ _ _ _ _ _ _ (c .before .before .number-at .ensures) _ (c .enum-told2 .given .1))
 
 number-at-requires-2 : tie.Need-number-at-requires-2
 number-at-requires-2 c κs = search needs
@@ -38,7 +39,7 @@ enum-told-3 : tie.Need-enum-told-3
 enum-told-3 c = search needs
 
 returns-3 : tie.Need-returns-3
-returns-3 c = function-uncounted _ _ _ _ _ (c .before .before .before .before .before .before .before .before .before .before .read-name .ensures) _ _ (c .before .before .before .before .before .before .before .before .read .given .1) _ (c .before .before .before .before .before .before .number-at .ensures) _ _ (c .before .before .before .before .params .given .1) _ (c .before .before .number-at2 .ensures) _ _ (c .enum-told3 .given .1)
+returns-3 c = named _ _ _ _ _ _ _ (c .before .before .before .before .before .before .before .before .before .before .read-name .ensures) _ _ _ (c .before .before .before .before .before .before .before .before .read .given .1) (numbered _ _ _ _ _ _ _ (c .before .before .before .before .before .before .number-at .ensures) _ _ _ (c .before .before .before .before .params .given .1) (no-count _ _ _ _ _ _ _ (c .before .before .number-at2 .ensures) _ _ (c .enum-told3 .given .1)))
 
 write-function-requires : tie.Need-write-function-requires
 write-function-requires c κs = search needs

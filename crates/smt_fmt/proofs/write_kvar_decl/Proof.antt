@@ -1,5 +1,5 @@
 -- `write_kvar_decl` sends the opening and a word.
-use Rattle.smt_fmt.proofs.Decls.{kvar-unnamed, kvar-uncounted, kvar-sends}
+use Rattle.smt_fmt.proofs.Decls.{no-name, named, no-count, kvar-sends}
 use borrow.Author.Needs.{needs}
 use Rattle.smt_fmt.proofs.write_kvar_decl.Statement.{statement}
 use Rattle.smt_fmt.proofs.write_kvar_decl.Tie as tie
@@ -14,7 +14,7 @@ enum-told : tie.Need-enum-told
 enum-told c = search needs
 
 returns : tie.Need-returns
-returns c = kvar-unnamed _ _ _ _ _ (c .before .before .read-name .ensures) _ _ (c .enum-told .given .1)
+returns c = no-name _ _ _ _ _ _ _ (c .before .before .read-name .ensures) _ (c .enum-told .given .1)
 
 number-at-requires : tie.Need-number-at-requires
 number-at-requires c κs = search needs
@@ -26,7 +26,7 @@ enum-told-2 : tie.Need-enum-told-2
 enum-told-2 c = search needs
 
 returns-2 : tie.Need-returns-2
-returns-2 c = kvar-uncounted _ _ _ _ _ (c .before .before .before .before .before .before .read-name .ensures) _ _ (c .before .before .before .before .read .given .1) _ (c .before .before .number-at .ensures) _ _ (c .enum-told2 .given .1)
+returns-2 c = named _ _ _ _ _ _ _ (c .before .before .before .before .before .before .read-name .ensures) _ _ _ (c .before .before .before .before .read .given .1) (no-count _ _ _ _ _ _ _ (c .before .before .number-at .ensures) _ _ (c .enum-told2 .given .1))
 
 open-signature-requires : tie.Need-open-signature-requires
 open-signature-requires c κs = search needs

@@ -6,11 +6,11 @@ use lib.ListN.{length}
 use Rattle.task.specs.Ast.{Sort}
 use Rattle.task.specs.Decode.{decSort}
 use Rattle.task.specs.Node.{sortOf}
-use Rattle.smt_text.specs.Text.{write-sort}
+use Rattle.smt_text.specs.Text.{applied, write-sort-ctor, write-sort}
 use Rattle.output.specs.Emit.{output}
-use Rattle.output.proofs.Sending.{Owes, owes-start, owes-more, owes-end}
-use Rattle.smt_sort.specs.Section.{encoderIn, sortsText}
-use Rattle.smt_sort.proofs.Sorts.{sorts-row, sort-none, sort-arm, sort-leaf, refused-sends, abs-sends, bit-vec-sends, func-sends, set-sends, map-sends, bare-sends, some-sends, data-sends, opaque-sends, skipped-sends}
+use Rattle.output.proofs.Sending.{Owes, owes-start, owes-more, owes-end, row-none, row-some}
+use Rattle.smt_sort.specs.Section.{encoderIn, ctorOf, sortsText, appliedText}
+use Rattle.smt_sort.proofs.Sorts.{sorts-row, sort-none, sort-arm, sort-leaf, refused-sends, abs-sends, bit-vec-sends, func-sends, set-sends, map-sends, data-sends, opaque-sends, skipped-sends}
 use Prim.Native.Nat.{ℕ, _<_}
 use borrow.Fn.Kinds.{In}
 use borrow.Fn.PlainCycle.{Measures, is, falls, and}
@@ -147,10 +147,12 @@ abbrev write-sorts-calls : ℕ → write-sorts-lts.Claims
 write-sorts-calls t = (byte-reads.Asked, byte-reads.Learnt, write-sort-below t, write-sort.Post)
 
 write-applied-returns : (t : ℕ) → write-applied-lts.Need-returns (write-applied-calls t) (write-applied-at t) write-applied.Post
-write-applied-returns t c = search bare-sends
+unfolding appliedText
+write-applied-returns t c = row-none (sorts-row _) (decSort _) (c .before .before .before .before .before .before .before .args .s .now) (applied (write-sort-ctor (ctorOf (c .before .before .before .before .before .before .before .args .s .now) (c .before .before .before .before .before .before .before .args .ctor)))) (c .before .before .before .before .before .before .before .args .n) (c .before .before .before .before .before .before .before .args .at) _ _ _ (c .before .before .before .before .if1 .taken) (refl, c .before .before .write-sort-ctor .ensures)
 
 write-applied-returns-2 : (t : ℕ) → write-applied-lts.Need-returns-2 (write-applied-calls t) (write-applied-at t) write-applied.Post
-write-applied-returns-2 t c = search some-sends
+unfolding appliedText sortsText
+write-applied-returns-2 t c = row-some (sorts-row _) (decSort _) (c .before .before .before .before .before .before .before .before .before .before .before .before .before .before .before .before .before .before .before .before .args .s .now) (applied (write-sort-ctor (ctorOf (c .before .before .before .before .before .before .before .before .before .before .before .before .before .before .before .before .before .before .before .before .args .s .now) (c .before .before .before .before .before .before .before .before .before .before .before .before .before .before .before .before .before .before .before .before .args .ctor)))) (c .before .before .before .before .before .before .before .before .before .before .before .before .before .before .before .before .before .before .before .before .args .n) (c .before .before .before .before .before .before .before .before .before .before .before .before .before .before .before .before .before .before .before .before .args .at) _ _ _ _ _ _ _ (λ w ws. refl) (c .before .before .before .before .before .before .before .before .before .before .before .before .before .before .before .before .before .if1 .left) (c .before .before .before .before .before .before .before .before .before .before .before .before .before .before .before .byte .ensures) (c .before .before .before .before .before .before .before .before .before .before .before .write-sort-ctor2 .ensures) (c .before .before .before .before .before .before .before .write-sorts .ensures) (c .before .before .byte2 .ensures)
 
 write-array-returns : (t : ℕ) → write-array-lts.Need-returns (write-array-calls t) (write-array-at t) write-array.Post
 write-array-returns t c = search func-sends

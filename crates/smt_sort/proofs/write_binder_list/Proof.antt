@@ -1,5 +1,10 @@
 -- `write_binder_list` sends the first name with its sort and then the others.
-use Rattle.smt_sort.proofs.Sorts.{no-binders, some-binders}
+use mathlib.Core.Path.{refl}
+use Rattle.task.specs.Decode.{binder}
+use Rattle.smt_text.specs.Text.{sexp-list}
+use Rattle.output.proofs.Sending.{row-none, row-list}
+use Rattle.smt_sort.specs.Section.{binderList, bindersText}
+use Rattle.smt_sort.proofs.Sorts.{binders-row}
 use borrow.Author.Needs.{needs}
 use Rattle.smt_sort.proofs.write_binder_list.Statement.{statement}
 use Rattle.smt_sort.proofs.write_binder_list.Tie as tie
@@ -14,7 +19,8 @@ same-length : tie.Need-same-length
 same-length c = search needs
 
 returns : tie.Need-returns
-returns c = search no-binders
+unfolding binderList
+returns c = row-none (binders-row _) (binder _) (c .before .before .before .before .before .before .before .before .args .s .now) sexp-list (c .before .before .before .before .before .before .before .before .args .n) (c .before .before .before .before .before .before .before .before .args .at) _ _ _ (c .before .before .before .before .before .if1 .taken) (c .before .before .write-word .ensures)
 
 byte-requires : tie.Need-byte-requires
 byte-requires c κs = search needs
@@ -35,7 +41,8 @@ same-length-2 : tie.Need-same-length-2
 same-length-2 c = search needs
 
 returns-2 : tie.Need-returns-2
-returns-2 c = search some-binders
+unfolding binderList bindersText
+returns-2 c = row-list (binders-row _) (binder _) (c .before .before .before .before .before .before .before .before .before .before .before .before .before .before .before .before .before .before .before .before .args .s .now) sexp-list (c .before .before .before .before .before .before .before .before .before .before .before .before .before .before .before .before .before .before .before .before .args .n) (c .before .before .before .before .before .before .before .before .before .before .before .before .before .before .before .before .before .before .before .before .args .at) _ _ _ _ _ _ _ (λ w ws. refl) (c .before .before .before .before .before .before .before .before .before .before .before .before .before .before .before .before .before .if1 .left) (c .before .before .before .before .before .before .before .before .before .before .before .before .before .before .before .byte .ensures) (c .before .before .before .before .before .before .before .before .before .before .before .write-binder .ensures) (c .before .before .before .before .before .before .before .write-binders .ensures) (c .before .before .byte2 .ensures)
 
 pub write-binder-list-spec : {M : Type 1} → statement M
 write-binder-list-spec =

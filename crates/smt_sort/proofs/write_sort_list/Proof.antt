@@ -1,6 +1,11 @@
 -- `write_sort_list` sends the first sort and then the others.
 use borrow.Author.Needs.{needs}
-use Rattle.smt_sort.proofs.Sorts.{no-sorts, some-sorts}
+use mathlib.Core.Path.{refl}
+use Rattle.task.specs.Decode.{decSort}
+use Rattle.smt_text.specs.Text.{sexp-list}
+use Rattle.output.proofs.Sending.{row-none, row-list}
+use Rattle.smt_sort.specs.Section.{sortList, sortsText}
+use Rattle.smt_sort.proofs.Sorts.{sorts-row}
 use Rattle.smt_sort.proofs.write_sort_list.Statement.{statement}
 use Rattle.smt_sort.proofs.write_sort_list.Tie as tie
 
@@ -14,7 +19,8 @@ same-length : tie.Need-same-length
 same-length c = search needs
 
 returns : tie.Need-returns
-returns c = search no-sorts
+unfolding sortList
+returns c = row-none (sorts-row _) (decSort _) (c .before .before .before .before .before .before .before .before .args .s .now) sexp-list (c .before .before .before .before .before .before .before .before .args .n) (c .before .before .before .before .before .before .before .before .args .at) _ _ _ (c .before .before .before .before .before .if1 .taken) (c .before .before .write-word .ensures)
 
 byte-requires : tie.Need-byte-requires
 byte-requires c κs = search needs
@@ -35,7 +41,8 @@ same-length-2 : tie.Need-same-length-2
 same-length-2 c = search needs
 
 returns-2 : tie.Need-returns-2
-returns-2 c = search some-sorts
+unfolding sortList sortsText
+returns-2 c = row-list (sorts-row _) (decSort _) (c .before .before .before .before .before .before .before .before .before .before .before .before .before .before .before .before .before .before .before .before .args .s .now) sexp-list (c .before .before .before .before .before .before .before .before .before .before .before .before .before .before .before .before .before .before .before .before .args .n) (c .before .before .before .before .before .before .before .before .before .before .before .before .before .before .before .before .before .before .before .before .args .at) _ _ _ _ _ _ _ (λ w ws. refl) (c .before .before .before .before .before .before .before .before .before .before .before .before .before .before .before .before .before .if1 .left) (c .before .before .before .before .before .before .before .before .before .before .before .before .before .before .before .byte .ensures) (c .before .before .before .before .before .before .before .before .before .before .before .write-sort .ensures) (c .before .before .before .before .before .before .before .write-sorts .ensures) (c .before .before .byte2 .ensures)
 
 pub write-sort-list-spec : {M : Type 1} → statement M
 write-sort-list-spec =
