@@ -1,7 +1,7 @@
 -- What is written: `smt_fmt.rs` with `SmtOptions::HORN`, function by function under the source's names with `-` for `_`, and
 -- `write_kvar_decl` of `smt_horn.rs`. Where the source panics no task is accepted; a definition gives a text there too, since it gives one
 -- for every tree.
-use Prim.Native.Nat.{ℕ, zero, suc, _+_}
+use Prim.Native.Nat.{ℕ, zero, suc}
 use Prim.Native.Char.{code}
 use mathlib.Core.Bool.{Bool, true, false, cond}
 use mathlib.Core.List.{List, [], _∷_, _++_}
