@@ -13,7 +13,7 @@ use Rattle.task.specs.declared.SpanRead.the-variants as span-is
 use Rattle.task.specs.declared.SortNode.{SortNode}
 use Rattle.task.specs.declared.SortNode.the-variants as sort-node
 use Rattle.task.specs.Ast.{SortCtor, Sort, Sorts}
-use Rattle.task.specs.Decode.{got, many, name, binder, datatype, decSort}
+use Rattle.task.specs.Decode.{got, bind, many, name, binder, datatype, decSort}
 use Rattle.task.specs.Fault.{isOne, sortsFault}
 use Rattle.task.specs.Node.{bytesOf, spanOf, sortOf, SortAt}
 use Rattle.task_check.specs.declared.Walked.{Walked}
@@ -99,16 +99,18 @@ module _ (enc : Encoder) (s : List ℕ) (l p : ℕ) (o : Output) where
       sends-then (write-sort enc) o o5 r (write-sort enc) (decSort l s q) _ o3 o4 r w' (λ b e' v'.
       sends-end (write-sort enc) o o5 r (Sort.func a b) r refl (rw (e5, v', e3, v, e1) (simp emits-append))))
 
-  -- a sort that is made of others
-  pub set-sends : (n : ℕ) (o' : Output) (r : ℕ) → Sends (appliedText enc SortCtor.set) (many Sorts.none Sorts.more (decSort l) n s p) o o' r
-      → Sends (write-sort enc) (sortOf s (decSort l) (sort-node.Set n p)) o o' r
-  unfolding sortOf write-sort appliedText
-  set-sends n o' r w = sends-map (write-sort enc) (Sort.app SortCtor.set) (many Sorts.none Sorts.more (decSort l) n s p) o o' r w
+  -- a sort that is made of others: its text by whether it is opaque, and what is sent if it is not
+  app-text : (c : SortCtor) (t : Bool) → isOpaque enc c ≡ t → (bs : Sorts) → write-sort enc (Sort.app c bs) ≡ cond t (bytes "Int") (appliedText enc c bs)
+  unfolding write-sort appliedText
+  app-text c t h bs = ap (λ (u : Bool). cond u (bytes "Int") (applied (write-sort-ctor c) (write-sorts enc bs))) h
 
-  pub map-sends : (n : ℕ) (o' : Output) (r : ℕ) → Sends (appliedText enc SortCtor.map) (many Sorts.none Sorts.more (decSort l) n s p) o o' r
-      → Sends (write-sort enc) (sortOf s (decSort l) (sort-node.Map n p)) o o' r
-  unfolding sortOf write-sort appliedText
-  map-sends n o' r w = sends-map (write-sort enc) (Sort.app SortCtor.map) (many Sorts.none Sorts.more (decSort l) n s p) o o' r w
+  pub made-sends : (c : SortCtor) (node : SortNode) (n : ℕ) (o' : Output) (r : ℕ) → isOpaque enc c ≡ false
+      → sortOf s (decSort l) node ≡ bind (many Sorts.none Sorts.more (decSort l) n s p) (λ bs q. got (Sort.app c bs) q)
+      → Sends (appliedText enc c) (many Sorts.none Sorts.more (decSort l) n s p) o o' r → Sends (write-sort enc) (sortOf s (decSort l) node) o o' r
+  made-sends c node n o' r h e w =
+      rw e
+      (sends-then (write-sort enc) o o' r (appliedText enc c) (many Sorts.none Sorts.more (decSort l) n s p) _ o o' r w (λ bs e' v.
+      sends-end (write-sort enc) o o' r (Sort.app c bs) r refl (v ∙ ap (emits o) (sym (app-text c false h bs)))))
 
 -- a datatype that is declared, and one that is not
 module _ (s : List ℕ) (types : Datatypes) (l : ℕ) (x : Span) (n p : ℕ) (o : Output) (t : Bool) (e : t ≡ isOne (bytesOf s x) (declaredIn s types false)) where
@@ -116,19 +118,12 @@ module _ (s : List ℕ) (types : Datatypes) (l : ℕ) (x : Span) (n p : ℕ) (o 
   unfolding encoderIn declaredIn
   opaque-is = ap not (sym e)
 
-  app-text : (bs : Sorts) → write-sort (encoderIn s types) (Sort.app (SortCtor.named (bytesOf s x)) bs)
-      ≡ cond (not t) (bytes "Int") (appliedText (encoderIn s types) (SortCtor.named (bytesOf s x)) bs)
-  unfolding write-sort appliedText
-  app-text bs =
-      ap (λ (u : Bool). cond u (bytes "Int") (applied (write-sort-ctor (SortCtor.named (bytesOf s x))) (write-sorts (encoderIn s types) bs))) opaque-is
-
   pub data-sends : (o' : Output) (r : ℕ) → t ≡ true
       → Sends (appliedText (encoderIn s types) (SortCtor.named (bytesOf s x))) (many Sorts.none Sorts.more (decSort l) n s p) o o' r
       → Sends (write-sort (encoderIn s types)) (sortOf s (decSort l) (sort-node.Data x n p)) o o' r
   unfolding sortOf
   data-sends o' r u w =
-      sends-then (write-sort (encoderIn s types)) o o' r (appliedText (encoderIn s types) (SortCtor.named (bytesOf s x))) (many Sorts.none Sorts.more (decSort l) n s p) _ o o' r w (λ bs e' v.
-      sends-end (write-sort (encoderIn s types)) o o' r (Sort.app (SortCtor.named (bytesOf s x)) bs) r refl (v ∙ ap (emits o) (sym (app-text bs ∙ simp u))))
+      made-sends (encoderIn s types) s l p o (SortCtor.named (bytesOf s x)) (sort-node.Data x n p) n o' r (opaque-is ∙ ap not u) refl w
 
   pub opaque-sends : (v : Walked) (q : ℕ) (f : Fault) (o' : Output) (r : ℕ) → t ≡ false
       → v ≡ walked sortsFault (many Sorts.none Sorts.more (decSort l) n s p) → v ≡ walked-is.Next q f → (r ≡ q) × (o' ≡ emits o (bytes "Int"))
@@ -138,7 +133,7 @@ module _ (s : List ℕ) (types : Datatypes) (l : ℕ) (x : Span) (n p : ℕ) (o 
       let y = next-is sortsFault (many Sorts.none Sorts.more (decSort l) n s p) q f (sym e2 ∙ e1) in
       rw (y .is)
       (sends-end (write-sort (encoderIn s types)) o o' r (Sort.app (SortCtor.named (bytesOf s x)) (y .value)) q (w .0)
-      (w .1 ∙ ap (emits o) (sym (app-text (y .value) ∙ simp u))))
+      (w .1 ∙ ap (emits o) (sym (app-text (encoderIn s types) s l p o (SortCtor.named (bytesOf s x)) true (opaque-is ∙ ap not u) (y .value)))))
 
   pub skipped-sends : (v : Walked) (k : ℕ) (o' : Output) (r : ℕ) → v ≡ walked sortsFault (many Sorts.none Sorts.more (decSort l) n s p) → v ≡ walked-is.Refused k
       → Sends (write-sort (encoderIn s types)) (sortOf s (decSort l) (sort-node.Data x n p)) o o' r

@@ -3,14 +3,15 @@ use borrow.Author.Needs.{needs}
 use Prim.Native.Nat.{_+_, _*_}
 use mathlib.Core.Path.{_≡_, refl}
 use lib.ListN.{length}
-use Rattle.task.specs.Ast.{Sort}
+use Rattle.task.specs.declared.SortNode.the-variants as sort-node
+use Rattle.task.specs.Ast.{SortCtor, Sort}
 use Rattle.task.specs.Decode.{decSort}
 use Rattle.task.specs.Node.{sortOf}
 use Rattle.smt_text.specs.Text.{applied, write-sort-ctor, write-sort}
 use Rattle.output.specs.Emit.{output}
 use Rattle.output.proofs.Sending.{Owes, owes-start, owes-more, owes-end, row-none, row-some}
 use Rattle.smt_sort.specs.Section.{encoderIn, ctorOf, sortsText, appliedText}
-use Rattle.smt_sort.proofs.Sorts.{sorts-row, sort-none, sort-arm, sort-leaf, refused-sends, abs-sends, bit-vec-sends, func-sends, set-sends, map-sends, data-sends, opaque-sends, skipped-sends}
+use Rattle.smt_sort.proofs.Sorts.{sorts-row, sort-none, sort-arm, sort-leaf, refused-sends, abs-sends, bit-vec-sends, func-sends, made-sends, data-sends, opaque-sends, skipped-sends}
 use Prim.Native.Nat.{ℕ, _<_}
 use borrow.Fn.Kinds.{In}
 use borrow.Fn.PlainCycle.{Measures, is, falls, and}
@@ -206,10 +207,12 @@ write-sort-returns-10 : (t : ℕ) → write-sort-lts.Need-returns-10 (write-sort
 write-sort-returns-10 t c = sort-arm _ _ _ _ _ _ _ _ _ (c .before .before .before .before .before .before .before .before .if1 .left) (c .before .before .before .before .before .before .before .read-sort-node .ensures) (c .before .before .before .before .before .node9 .given .1) (abs-sends _ _ _ _ _ _ _ _ (c .before .before .write-sort .ensures))
 
 write-sort-returns-11 : (t : ℕ) → write-sort-lts.Need-returns-11 (write-sort-calls t) (write-sort-at t) write-sort.Post
-write-sort-returns-11 t c = sort-arm _ _ _ _ _ _ _ _ _ (c .before .before .before .before .before .before .before .before .if1 .left) (c .before .before .before .before .before .before .before .read-sort-node .ensures) (c .before .before .before .before .before .node10 .given .1) (set-sends _ _ _ _ _ _ _ _ (c .before .before .write-applied .ensures))
+unfolding sortOf
+write-sort-returns-11 t c = sort-arm _ _ _ _ _ _ _ _ _ (c .before .before .before .before .before .before .before .before .if1 .left) (c .before .before .before .before .before .before .before .read-sort-node .ensures) (c .before .before .before .before .before .node10 .given .1) (made-sends _ _ _ (c .before .before .before .before .before .node10 .given .0 .1 .0) _ SortCtor.set (sort-node.Set (c .before .before .before .before .before .node10 .given .0 .0) (c .before .before .before .before .before .node10 .given .0 .1 .0)) (c .before .before .before .before .before .node10 .given .0 .0) _ _ refl refl (c .before .before .write-applied .ensures))
 
 write-sort-returns-12 : (t : ℕ) → write-sort-lts.Need-returns-12 (write-sort-calls t) (write-sort-at t) write-sort.Post
-write-sort-returns-12 t c = sort-arm _ _ _ _ _ _ _ _ _ (c .before .before .before .before .before .before .before .before .if1 .left) (c .before .before .before .before .before .before .before .read-sort-node .ensures) (c .before .before .before .before .before .node11 .given .1) (map-sends _ _ _ _ _ _ _ _ (c .before .before .write-applied2 .ensures))
+unfolding sortOf
+write-sort-returns-12 t c = sort-arm _ _ _ _ _ _ _ _ _ (c .before .before .before .before .before .before .before .before .if1 .left) (c .before .before .before .before .before .before .before .read-sort-node .ensures) (c .before .before .before .before .before .node11 .given .1) (made-sends _ _ _ (c .before .before .before .before .before .node11 .given .0 .1 .0) _ SortCtor.map (sort-node.Map (c .before .before .before .before .before .node11 .given .0 .0) (c .before .before .before .before .before .node11 .given .0 .1 .0)) (c .before .before .before .before .before .node11 .given .0 .0) _ _ refl refl (c .before .before .write-applied2 .ensures))
 
 write-sort-returns-13 : (t : ℕ) → write-sort-lts.Need-returns-13 (write-sort-calls t) (write-sort-at t) write-sort.Post
 write-sort-returns-13 t c = search sort-arm
