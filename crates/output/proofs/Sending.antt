@@ -6,86 +6,129 @@ use native.Mathlib.Omega.{arith}
 use Rattle.task.specs.Decode.{Res, got, refuse, bind, Decoder, many}
 use Rattle.task.proofs.Reading.{bind-got, got-refuse}
 use Rattle.smt_text.specs.Text.{spaced, sexp-list}
-use Rattle.output.specs.Emit.{Output, emit, emits, Sends}
+use Rattle.output.specs.Emit.{Output, emit, emits, Runs, Sends}
 use Rattle.output.proofs.Sent.{emits-append}
 
-module _ {A : Type 0} (text : A → List ℕ) (o o' : Output) (r : ℕ) where
+module _ {A W : Type 0} (run : W → A → W) (w w' : W) (r : ℕ) where
   -- what is refused asks nothing
-  pub sends-refused : (k : ℕ) → Sends text (refuse k) o o' r
-  unfolding Sends
-  sends-refused k a p e = got-refuse (sym e)
+  pub runs-refused : (k : ℕ) → Runs run (refuse k) w w' r
+  runs-refused k a p e = got-refuse (sym e)
 
   -- a piece that ends here
+  pub runs-end : (a : A) (p : ℕ) → r ≡ p → w' ≡ run w a → Runs run (got a p) w w' r
+  runs-end a p u v b q e =
+      let ea : a ≡ b = cc in
+      (u ∙ (cc), v ∙ ap (run w) ea)
+
+  -- what a piece leads to: where it was decoded it ended at q, and v became v'
+  pub runs-then : {B U : Type 0} (part : U → B → U) (x : Res B) (k : B → ℕ → Res A) (v v' : U) (q : ℕ) → Runs part x v v' q
+      → ((b : B) → x ≡ got b q → v' ≡ part v b → Runs run (k b q) w w' r) → Runs run (bind x k) w w' r
+  runs-then part x k v v' q u h a p e =
+      let i = bind-got x k a p e in
+      let g = u (i .value) (i .next) (i .first) in
+      h (i .value) (i .first ∙ ap (got (i .value)) (sym (g .0))) (g .1) a p (ap (k (i .value)) (g .0) ∙ i .then)
+
+-- the same of texts that are sent
+module _ {A : Type 0} (text : A → List ℕ) (o o' : Output) (r : ℕ) where
+  pub sends-refused : (k : ℕ) → Sends text (refuse k) o o' r
+  unfolding Sends
+  sends-refused = runs-refused (λ w a. emits w (text a)) o o' r
+
   pub sends-end : (a : A) (p : ℕ) → r ≡ p → o' ≡ emits o (text a) → Sends text (got a p) o o' r
   unfolding Sends
-  sends-end a p u v b q e =
-      let ea : a ≡ b = cc in
-      (u ∙ (cc), v ∙ ap (λ (x : A). emits o (text x)) ea)
+  sends-end = runs-end (λ w a. emits w (text a)) o o' r
 
-  -- what a piece leads to: where it was decoded it ended at q, with o1 sent
   pub sends-then : {B : Type 0} (part : B → List ℕ) (x : Res B) (k : B → ℕ → Res A) (o0 o1 : Output) (q : ℕ) → Sends part x o0 o1 q
       → ((b : B) → x ≡ got b q → o1 ≡ emits o0 (part b) → Sends text (k b q) o o' r) → Sends text (bind x k) o o' r
   unfolding Sends
-  sends-then part x k o0 o1 q w h a p e =
-      let i = bind-got x k a p e in
-      let v = w (i .value) (i .next) (i .first) in
-      h (i .value) (i .first ∙ ap (got (i .value)) (sym (v .0))) (v .1) a p (ap (k (i .value)) (v .0) ∙ i .then)
+  sends-then part = runs-then (λ w a. emits w (text a)) o o' r (λ w b. emits w (part b))
 
 -- a piece that is made of another
 pub sends-map : {A B : Type 0} (text : A → List ℕ) (k : B → A) (x : Res B) (o o' : Output) (r : ℕ) → Sends (λ b. text (k b)) x o o' r
     → Sends text (bind x (λ b q. got (k b) q)) o o' r
 sends-map text k x o o' r w = sends-then text o o' r (λ b. text (k b)) x (λ b q. got (k b) q) o o' r w (λ b e v. sends-end text o o' r (k b) r refl v)
 
+-- LOOPS
+
+-- pieces in a row are run one by one
+pub record Steps {A R W : Type 0} (end : R) (more : A → R → R) (one : W → A → W) (all : W → R → W) : Type 0 where
+  pub none : (w : W) → all w end ≡ w
+  pub step : (w : W) (a : A) (r : R) → all w (more a r) ≡ all (one w a) r
+
+-- what is left of a row leads to what the row leads to
+record Left {R W : Type 0} (all : W → R → W) (x : Res R) (w whole : W) (q : ℕ) : Type 0 where
+  rest : R
+  is : x ≡ got rest q
+  same : all w rest ≡ whole
+
+module _ {A R W : Type 0} {end : R} {more : A → R → R} {one : W → A → W} {all : W → R → W} (steps : Steps end more one all) (whole : Res R) (first : W) where
+  -- the loop: x is left of the whole row, and what there was at first has become w
+  pub Owing : Res R → W → Type 0
+  Owing x w = (b : R) (q : ℕ) → whole ≡ got b q → Left all x w (all first b) q
+
+  pub owing-start : Owing whole first
+  unfolding Owing
+  owing-start b q e = record { rest = b; is = e; same = refl }
+
+  pub owing-more : (x : Res A) (rest : ℕ → Res R) (w w' : W) (p : ℕ) → Owing (bind x (λ a p1. bind (rest p1) (λ b q. got (more a b) q))) w → Runs one x w w' p
+      → Owing (rest p) w'
+  unfolding Owing
+  owing-more x rest w w' p h u b q e =
+      let l = h b q e in
+      let i = bind-got x (λ a p1. bind (rest p1) (λ c p2. got (more a c) p2)) (l .rest) q (l .is) in
+      let j = bind-got (rest (i .next)) (λ c p2. got (more (i .value) c) p2) (l .rest) q (i .then) in
+      let v = u (i .value) (i .next) (i .first) in
+      let eb : more (i .value) (j .value) ≡ l .rest = cc in
+      let ep : j .next ≡ q = cc in
+      record {
+        rest = j .value;
+        is = rw (v .0) (j .first ∙ ap (got (j .value)) ep);
+        same = rw (v .1) (sym (steps .step w (i .value) (j .value)) ∙ ap (all w) eb ∙ l .same);
+      }
+
+  pub owing-end : (p : ℕ) (w : W) → Owing (got end p) w → Runs all whole first w p
+  unfolding Owing
+  owing-end p w h b q e =
+      let l = h b q e in
+      let ez : end ≡ l .rest = cc in
+      (cc, sym (steps .none w) ∙ ap (all w) ez ∙ l .same)
+
 -- the texts of pieces in a row
 pub record Row {A R : Type 0} (end : R) (more : A → R → R) (one : A → List ℕ) (all : R → List (List ℕ)) : Type 0 where
   pub none : all end ≡ []
   pub step : (a : A) (r : R) → all (more a r) ≡ one a ∷ all r
 
--- what is left of a row has the text that is left
-record Left {R : Type 0} (all : R → List (List ℕ)) (x : Res R) (o whole : Output) (q : ℕ) : Type 0 where
-  rest : R
-  is : x ≡ got rest q
-  same : emits o (spaced (all rest)) ≡ whole
-
 module _ {A R : Type 0} {end : R} {more : A → R → R} {one : A → List ℕ} {all : R → List (List ℕ)} (row : Row end more one all) (d : Decoder A) (s : List ℕ) where
+  -- they are sent with a space before each
+  spaces : Steps end more (λ (o : Output) (a : A). emits (emit o 32) (one a)) (λ o r. emits o (spaced (all r)))
+  unfolding emits
+  spaces = record {
+    none = λ w. rw (row .none) refl;
+    step = λ w a r. rw (row .step a r) (emits-append (emit w 32) (one a) (spaced (all r)));
+  }
+
   -- the loop: the n pieces from p on are left, o was sent so far; from m, at and first on they are all
   pub Owes : ℕ → ℕ → Output → ℕ → ℕ → Output → Type 0
-  Owes m at first n p o =
-      (b : R) (q : ℕ) → many end more d m s at ≡ got b q → Left all (many end more d n s p) o (emits first (spaced (all b))) q
+  Owes m at first n p o = Owing spaces (many end more d m s at) first (many end more d n s p) o
 
   module _ (m at : ℕ) (first : Output) where
     pub owes-start : Owes m at first m at first
     unfolding Owes
-    owes-start b q e = record { rest = b; is = e; same = refl }
+    owes-start = owing-start spaces (many end more d m s at) first
 
     pub owes-more : (n p : ℕ) (o o1 o2 : Output) (q : ℕ) → 0 < n → Owes m at first n p o → o1 ≡ emit o 32 → Sends one (d s p) o1 o2 q
         → Owes m at first (n - 1) q o2
-    unfolding Owes Sends emits
-    owes-more zero p o o1 o2 q h w e1 w1 b q' e = absurd (omega arith)
-    owes-more (suc n) p o o1 o2 q h w e1 w1 b q' e =
-        let u = w b q' e in
-        let i = bind-got (d s p) (λ a p1. bind (many end more d n s p1) (λ c p2. got (more a c) p2)) (u .rest) q' (u .is) in
-        let j = bind-got (many end more d n s (i .next)) (λ c p2. got (more (i .value) c) p2) (u .rest) q' (i .then) in
-        let v = w1 (i .value) (i .next) (i .first) in
-        let eb : more (i .value) (j .value) ≡ u .rest = cc in
-        let ep : j .next ≡ q' = cc in
+    unfolding Owes Sends
+    owes-more zero p o o1 o2 q h w e1 w1 = absurd (omega arith)
+    owes-more (suc n) p o o1 o2 q h w e1 w1 =
         let en : suc n - 1 ≡ n = omega arith in
-        let et : all (u .rest) ≡ one (i .value) ∷ all (j .value) = ap all (sym eb) ∙ row .step (i .value) (j .value) in
-        record {
-          rest = j .value;
-          is = rw (en, v .0) (j .first ∙ ap (got (j .value)) ep);
-          same = rw (v .1, e1) (sym (emits-append (emit o 32) (one (i .value)) (spaced (all (j .value)))) ∙ (rw et at (u .same)));
-        }
+        rw en (owing-more spaces (many end more d m s at) first (d s p) (many end more d n s) o o2 q w (λ a p1 e. let v = w1 a p1 e in (v .0, rw e1 at (v .1))))
 
     pub owes-end : (n p : ℕ) (o : Output) → n ≤ 0 → Owes m at first n p o → Sends (λ b. spaced (all b)) (many end more d m s at) first o p
-    unfolding Owes Sends emits
-    owes-end n p o h w b q e =
-        let u = w b q e in
+    unfolding Owes Sends
+    owes-end n p o h w =
         let en : n ≡ 0 = omega arith in
-        let e' : got end p ≡ got (u .rest) q = rw en at (u .is) in
-        let ez : end ≡ u .rest = cc in
-        let et : all (u .rest) ≡ [] = ap all (sym ez) ∙ row .none in
-        (cc, rw et at (u .same))
+        owing-end spaces (many end more d m s at) first p o (rw en at w)
 
   -- a row by its first piece
   record First (n p : ℕ) (b : R) (q : ℕ) : Type 0 where

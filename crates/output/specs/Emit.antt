@@ -28,9 +28,13 @@ unfoldable pub emits : Output → List ℕ → Output
 emits o [] = o
 emits o (b ∷ bs) = emits (emit o b) bs
 
--- Where a piece was decoded, the writer ended behind it and the piece's text was sent.
+-- Where a piece was decoded, a walker ended behind it and has run it: what it had before became what it has now.
+abbrev pub Runs : {A W : Type 0} → (W → A → W) → Res A → W → W → ℕ → Type 0
+Runs {A} run d w w' at = (a : A) (p : ℕ) → d ≡ got a p → (at ≡ p) × (w' ≡ run w a)
+
+-- a writer runs a piece by sending its text
 unfoldable pub Sends : {A : Type 0} → (A → List ℕ) → Res A → Output → Output → ℕ → Type 0
-Sends {A} text d o o' at = (a : A) (p : ℕ) → d ≡ got a p → (at ≡ p) × (o' ≡ emits o (text a))
+Sends text d o o' at = Runs (λ w a. emits w (text a)) d o o' at
 
 -- What was sent to an empty count stands at the buffer's start as far as there is room, and the count is its length. (proofs/Sent.antt: laid)
 abbrev pub Laid : Type 0

@@ -32,7 +32,7 @@ pub pred-none : (enc : Encoder) (l : ℕ) (s : List ℕ) (at : ℕ) (o o' : Outp
 unfolding decPred
 pred-none enc l s at o o' r e = rw e (sends-refused (write-pred enc) o o' r 3)
 
-pred-at : (l : ℕ) (s : List ℕ) (at : ℕ) (n n' : PredNode) → (l ≡ 0 → ⊥) → PredAt s at n → n ≡ n' → decPred l s at ≡ predOf s (decExpr (l - 1)) n'
+pub pred-at : (l : ℕ) (s : List ℕ) (at : ℕ) (n n' : PredNode) → (l ≡ 0 → ⊥) → PredAt s at n → n ≡ n' → decPred l s at ≡ predOf s (decExpr (l - 1)) n'
 unfolding decPred PredAt
 pred-at zero s at n n' z h e = absurd (z refl)
 pred-at (suc l) s at n n' z h e = rw (sub-one (suc l)) (h (decExpr l) ∙ ap (predOf s (decExpr l)) e)

@@ -24,14 +24,14 @@ use Rattle.smt_text.specs.Text.{spaced, separated, applied, write-name, 
 use Rattle.smt_text.specs.Theorems.{Bounded, Bounds, parameters}
 
 -- 16 for each byte read, and c besides, pay for the size of what is decoded
-record Costs {A : Type 0} (c : ℕ) (size : A → ℕ) (d : Decoder A) : Type 0 where
-  costs : (s : List ℕ) → ((i : ℕ) → getD s i 0 < 256) → (at : ℕ) (a : A) (p : ℕ) → d s at ≡ got a p → 16 * at + size a ≤ 16 * p + c
+pub record Costs {A : Type 0} (c : ℕ) (size : A → ℕ) (d : Decoder A) : Type 0 where
+  pub costs : (s : List ℕ) → ((i : ℕ) → getD s i 0 < 256) → (at : ℕ) (a : A) (p : ℕ) → d s at ≡ got a p → 16 * at + size a ≤ 16 * p + c
 
 module _ {A : Type 0} {c : ℕ} {size : A → ℕ} where
-  refused : {n : ℕ} → Costs c size (refusal n)
+  pub refused : {n : ℕ} → Costs c size (refusal n)
   refused = record { costs = λ s b at a p e. got-refuse (sym e) }
 
-  free : {a : A} → size a ≤ c → Costs c size (give a)
+  pub free : {a : A} → size a ≤ c → Costs c size (give a)
   free {a} h = record {
     costs = λ s b at a' p e.
         let l : a ≡ a' = cc in
@@ -49,7 +49,7 @@ module _ {A : Type 0} {c : ℕ} {size : A → ℕ} where
 
 infixr 2 _⟫_
 -- what the first piece has paid for is there for what follows it
-_⟫_ : {A B : Type 0} {c : ℕ} {size' : A → ℕ} {size : B → ℕ} {d : Decoder A} {k : A → Decoder B}
+pub _⟫_ : {A B : Type 0} {c : ℕ} {size' : A → ℕ} {size : B → ℕ} {d : Decoder A} {k : A → Decoder B}
     → Costs 0 size' d → ((a : A) → Costs (c + size' a) size (k a)) → Costs c size (d ▹ k)
 _⟫_ {d = d} {k = k} f g = record {
   costs = λ s b at a q e.
@@ -108,15 +108,15 @@ any-number k = numbers k (λ n l. omega arith)
 
 -- NAMES, STRINGS, ROWS
 
-names : Costs 0 (λ x. 16 + length x) name
+pub names : Costs 0 (λ x. 16 + length x) name
 names = any-number 1 ⟫ λ n. either-way (eqb n 0) refused (raws n)
 
-texts : Costs 0 (λ t. 32 + length t) text
+pub texts : Costs 0 (λ t. 32 + length t) text
 texts = any-number 2 ⟫ λ n. raws n
 
 module _ {A B : Type 0} {size' : A → ℕ} {d : Decoder A} (size : B → ℕ) (end : B) (more : A → B → B) where
   -- a count and a row, to whose size each piece adds no more than its own
-  rows : size end ≤ 0 → ((a : A) (b : B) → size (more a b) ≤ size' a + size b) → Costs 0 size' d
+  pub rows : size end ≤ 0 → ((a : A) (b : B) → size (more a b) ≤ size' a + size b) → Costs 0 size' d
       → Costs 0 (λ b. 32 + size b) (counted end more d)
   rows h g f = any-number 2 ⟫ λ n. go n
     where
@@ -125,12 +125,12 @@ module _ {A B : Type 0} {size' : A → ℕ} {d : Decoder A} (size : B → ℕ) (
       go (suc n) = f ⟫ λ a. go {c = 0} n ⟫ λ b. free (omega (arith, g a b))
 
 -- each of the decoders listed
-data CostAll {A : Type 0} (c : ℕ) (size : A → ℕ) : List (Decoder A) → Type 0 where
+pub data CostAll {A : Type 0} (c : ℕ) (size : A → ℕ) : List (Decoder A) → Type 0 where
   end : CostAll c size []
   more : {d : Decoder A} {ds : List (Decoder A)} → Costs c size d → CostAll c size ds → CostAll c size (d ∷ ds)
 
 infixr 5 _∣_
-_∣_ : {A : Type 0} {c : ℕ} {size : A → ℕ} {d : Decoder A} {ds : List (Decoder A)}
+pub _∣_ : {A : Type 0} {c : ℕ} {size : A → ℕ} {d : Decoder A} {ds : List (Decoder A)}
     → Costs c size d → CostAll c size ds → CostAll c size (d ∷ ds)
 _∣_ f fs = CostAll.more f fs
 
@@ -140,7 +140,7 @@ cost-at zero (CostAll.more f fs) = f
 cost-at (suc k) (CostAll.more f fs) = cost-at k fs
 
 -- the code's byte is there for each form
-codes : {A : Type 0} {size : A → ℕ} {ds : List (Decoder A)} → CostAll 16 size ds → Costs 0 size (coded ds)
+pub codes : {A : Type 0} {size : A → ℕ} {ds : List (Decoder A)} → CostAll 16 size ds → Costs 0 size (coded ds)
 codes fs = any-number 1 ⟫ λ k. cost-at k fs
 
 -- FIXED WORDS
@@ -175,14 +175,14 @@ thys =
 -- LENGTHS OF ROWS
 
 -- a piece and 4 bytes more, and pieces in a row
-abbrev wide : List ℕ → ℕ
+abbrev pub wide : List ℕ → ℕ
 wide w = 4 + length w
 
-abbrev wides : List (List ℕ) → ℕ
+abbrev pub wides : List (List ℕ) → ℕ
 wides [] = 0
 wides (w ∷ ws) = wide w + wides ws
 
-spaced-length : (ws : List (List ℕ)) → length (spaced ws) ≤ wides ws
+pub spaced-length : (ws : List (List ℕ)) → length (spaced ws) ≤ wides ws
 spaced-length [] = omega arith
 spaced-length (w ∷ ws) = let h = spaced-length ws in simp length-append (omega arith)
 
@@ -209,8 +209,8 @@ parameters-length i (suc n) h =
     let k = parameters-length (suc i) n (omega arith) in
     simp length-append (omega arith)
 
--- the number of parameters, with what the parameters take beside these
-vars-cost : Costs 0 (λ n. 16 + length (decimal n) + (length (separated (write-parameters 0 n)) - 7 * n)) (number 2)
+-- the number of parameters, with what the parameters take beside these; it is a number of two bytes
+vars-cost : Costs 0 (λ n. 16 + length (decimal n) + (length (separated (write-parameters 0 n)) - 7 * n) + 7 * (n - 65535)) (number 2)
 vars-cost =
     numbers 2 (λ n h.
     let l : length (decimal n) ≤ 5 = decimal-length 4 n (omega arith) in
@@ -249,7 +249,7 @@ module _ (enc : Encoder) where
       (names ⟫ λ x. sort-rows c ⟫ λ bs. free (omega (arith, app-length (SortCtor.named x) bs))) ∣
       end
 
-  sorts : (l : ℕ) → Costs 0 wide-sort (decSort l)
+  pub sorts : (l : ℕ) → Costs 0 wide-sort (decSort l)
   unfolding decSort
   sorts zero = refused
   sorts (suc l) = codes (sort-forms (sorts l))
@@ -334,7 +334,7 @@ module _ (enc : Encoder) where
   exprs zero = refused
   exprs (suc l) = codes (expr-forms l (exprs l))
 
-  preds : (l : ℕ) → Costs 0 (λ p. wide (write-pred enc p)) (decPred l)
+  pub preds : (l : ℕ) → Costs 0 (λ p. wide (write-pred enc p)) (decPred l)
   unfolding decPred write-pred write-name
   preds zero = refused
   preds (suc l) =
@@ -362,7 +362,7 @@ module _ (enc : Encoder) where
       cond-length (eqb (d .vars) 0) _ _ _ (simp length-append (omega arith)) (simp length-append (omega arith)) in
       simp length-append (omega arith)
 
-  datatypes : Costs 0 (λ d. length (write-datatype-decl enc d) - parameters d) datatype
+  pub datatypes : Costs 0 (λ d. (length (write-datatype-decl enc d) - parameters d) + 7 * (d .vars - 65535)) datatype
   datatypes =
       names ⟫ λ x. vars-cost ⟫ λ n. ctor-rows ⟫ λ cs.
       free (omega (arith, datatype-length (record { name = x; vars = n; ctors = cs })))

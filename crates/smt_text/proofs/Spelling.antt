@@ -38,7 +38,7 @@ open SoundParts sound-parts using (none-left, none-right)
 
 infixr 5 _∣_
 -- each text says its piece
-data Each : List (List ℕ) → List Sexps → Type 0 where
+pub data Each : List (List ℕ) → List Sexps → Type 0 where
   end : Each [] []
   _∣_ : {w : List ℕ} {ws : List (List ℕ)} {x : Sexps} {xs : List Sexps} → Says w x → Each ws xs → Each (w ∷ ws) (x ∷ xs)
 
@@ -46,14 +46,14 @@ behind : {ws : List (List ℕ)} {xs : List Sexps} → Each ws xs → Follows (sp
 behind end = follows-nothing
 behind (s ∣ e) = follows-spaced s (behind e)
 
-in-row : {ws : List (List ℕ)} {xs : List Sexps} → Each ws xs → Says (separated ws) (row xs)
+pub in-row : {ws : List (List ℕ)} {xs : List Sexps} → Each ws xs → Says (separated ws) (row xs)
 in-row end = says-nothing
 in-row (s ∣ e) = says-row s (behind e)
 
-form : {ws : List (List ℕ)} {xs : List Sexps} → Each ws xs → Says (sexp-list ws) (group xs)
+pub form : {ws : List (List ℕ)} {xs : List Sexps} → Each ws xs → Says (sexp-list ws) (group xs)
 form e = says-list (in-row e)
 
-command : {ws : List (List ℕ)} {xs : List Sexps} → Each ws xs → Writes (line (sexp-list ws)) (row xs ∷ [])
+pub command : {ws : List (List ℕ)} {xs : List Sexps} → Each ws xs → Writes (line (sexp-list ws)) (row xs ∷ [])
 command e = writes-command (in-row e)
 
 says-applied : {f : List ℕ} {x : Sexps} {ws : List (List ℕ)} {xs : List Sexps} → Says f x → Each ws xs → Says (applied f ws) (appliedTo x xs)
@@ -75,10 +75,10 @@ says-cond false a b = b
 named : (x : List ℕ) → T (isSymbol x) → Says x (nameSexp x)
 named x h = says-token (as-word Kind.symbol x h)
 
-kept : (w : String) → T (isOf Kind.reserved (bytes w)) → Says (bytes w) (reserved w)
+pub kept : (w : String) → T (isOf Kind.reserved (bytes w)) → Says (bytes w) (reserved w)
 kept w h = says-token (as-word Kind.reserved (bytes w) h)
 
-word : (w : String) → T (isSymbol (bytes w)) → Says (bytes w) (symbol w)
+pub word : (w : String) → T (isSymbol (bytes w)) → Says (bytes w) (symbol w)
 word w h = named (bytes w) h
 
 number : (n : ℕ) → Says (decimal n) (numeral n)
@@ -115,7 +115,7 @@ parameter n = lettered (bytes "T") (λ d. refl) n
 
 -- NAMES AND STRINGS
 
-text-holds : (t : Bool) → unless t Text ≡ Sound → T t
+pub text-holds : (t : Bool) → unless t Text ≡ Sound → T t
 text-holds true h = tt
 text-holds false h = clash (cc)
 
@@ -267,7 +267,7 @@ module _ (enc : Encoder) where
     sorts-say Sorts.none h = end
     sorts-say (Sorts.more b bs) h = sort-says false b (none-left _ _ h) ∣ sorts-say bs (none-right _ _ h)
 
-  binder-says : (b : Binder) → binderFault b ≡ Sound → Says (write-binder enc b) (binderSexp enc b)
+  pub binder-says : (b : Binder) → binderFault b ≡ Sound → Says (write-binder enc b) (binderSexp enc b)
   unfolding write-binder binderSexp binderFault
   binder-says b h = form (name-says (b .name) (none-left _ _ h) ∣ sort-says false (b .sort) (none-right _ _ h) ∣ end)
 

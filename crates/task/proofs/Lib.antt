@@ -6,3 +6,4 @@ pub mod Pieces
 pub mod Judging
 pub mod Items
 pub mod Examples
+pub mod Levels

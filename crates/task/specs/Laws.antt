@@ -5,7 +5,7 @@ use mathlib.Core.List.{List}
 use lib.ListN.{length, getD}
 use Rattle.task.specs.declared.Fault.{Fault}
 use Rattle.task.specs.declared.Fault.the-variants.{Sound}
-use Rattle.task.specs.Decode.{got, Decoder, _▹_, section}
+use Rattle.task.specs.Decode.{got, Decoder, _▹_, decSort, decPred, section}
 use Rattle.task.specs.Fault.{lower}
 use Rattle.task.specs.Covers.{CoversSome}
 
@@ -29,3 +29,12 @@ pub record Walks {A : Type 0} (d : Decoder A) (s : List ℕ) (at : ℕ) (xs : Li
 -- so is every section that decodes
 pub record SectionWalks : Type 1 where
   pub walks : {A : Type 0} (d : Decoder A) (s : List ℕ) (at : ℕ) (xs : List A) (q : ℕ) → CoversSome d → at ≤ length s → section d s at ≡ got xs q → Walks d s at xs q
+
+-- where one decoder gets something the other gets the same
+pub record Agrees {A : Type 0} (d e : Decoder A) : Type 0 where
+  pub agrees : (s : List ℕ) (at : ℕ) (a : A) (p : ℕ) → d s at ≡ got a p → e s at ≡ got a p
+
+-- What decodes with some levels left decodes alike with more. (proofs/Levels.antt: deeper)
+pub record Deeper : Type 0 where
+  pub sorts : (l m : ℕ) → l ≤ m → Agrees (decSort l) (decSort m)
+  pub preds : (l m : ℕ) → l ≤ m → Agrees (decPred l) (decPred m)

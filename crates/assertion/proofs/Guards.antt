@@ -1,0 +1,285 @@
+-- What the loops over a path and over predicates add up to: binders and guards that are sent, guards that are counted.
+use mathlib.Core.Path.{_≡_, refl, sym, ap, _∙_, subst}
+use mathlib.Core.Bool.{Bool, true, false, cond}
+use mathlib.Core.List.{List, [], _∷_, _++_, map, append-assoc}
+use Prim.Native.Nat.{ℕ, zero, suc, _+_, _-_, _<_, _≤_, min}
+use native.Mathlib.Numerals.{add-one}
+use native.Mathlib.Omega.{arith}
+use lib.ListN.{length, length-map, take, drop, getD, drop-of-length-le}
+use lib.Seq.{length-take-le, drop-cons, getD-take}
+use Rattle.task.specs.declared.Fault.{Fault}
+use Rattle.task.specs.declared.Number.{Number}
+use Rattle.task.specs.declared.Number.the-variants as number-is
+use Rattle.task.specs.Ast.{Binder, Pred}
+use Rattle.task.specs.Decode.{Res, got, refuse, bind, Decoder, number, many, counted, binder, decPred, deepest}
+use Rattle.task.specs.Fault.{binderFault, predFault}
+use Rattle.task.specs.Task.{literallyTrue}
+use Rattle.task.specs.Node.{numberOf}
+use Rattle.task.proofs.Reading.{bind-got, got-refuse}
+use Rattle.task_check.specs.declared.Walked.{Walked}
+use Rattle.task_check.specs.declared.Walked.the-variants as walked-is
+use Rattle.task_check.specs.Walk.{walked, readTrue}
+use Rattle.task_check.proofs.Rows.{next-is, refused-is}
+use Rattle.smt_text.specs.Encoder.{Encoder}
+use Rattle.smt_text.specs.Text.{spaced, write-binder, write-pred}
+use Rattle.horn_text.specs.Clauses.{ForAll, kept, guardsOf}
+use Rattle.horn_text.specs.Script.{write-preds}
+use Rattle.output.specs.Emit.{Output, emit, emits, Runs, Sends}
+use Rattle.output.proofs.Sent.{emits-append}
+use Rattle.output.proofs.Sending.{runs-refused, runs-end, runs-then, Steps, Owing, owing-start, owing-more, owing-end}
+use Rattle.assertion.specs.Under.{forAllAt, onPath, varsText, keptText, ownText, guardsText, count, counts, countOwn, countAll, Counts}
+
+-- PATHS
+
+-- the offsets of a path are among its 256
+pub sized : (a : List ℕ) (n : ℕ) → length (map (λ v. v) a) ≡ 256 → n ≤ 256 → n ≤ length a
+sized a n e h = rw (sym (length-map a (λ v. v)) ∙ e) h
+
+module _ {W : Type 0} {one : W → ForAll → W} {all : W → List ForAll → W} (steps : Steps [] _∷_ one all) (s a : List ℕ) (n : ℕ) (first : W) where
+  -- the loop over the offsets of a path: those from i on are left
+  pub Along : ℕ → W → Type 0
+  Along i w = (n ≤ length a) × Owing steps (onPath s (take n a)) first (onPath s (drop i (take n a))) w
+
+  pub along-start : n ≤ length a → Along 0 first
+  unfolding Along
+  along-start h = (h, owing-start steps (onPath s (take n a)) first)
+
+  pub along-more : (i : ℕ) (w w' : W) → i < n → Along i w → Runs one (forAllAt s (getD a i 0)) w w' 0 → Along (i + 1) w'
+  unfolding Along onPath
+  along-more i w w' g l u =
+      let h = l .0 in
+      let k : i < length (take n a) = rw (length-take-le n a h) g in
+      let e : drop i (take n a) ≡ getD a i 0 ∷ drop (i + 1) (take n a) = rw (add-one i) (drop-cons (take n a) i 0 k ∙ ap (λ (x : ℕ). x ∷ drop (suc i) (take n a)) (getD-take n a i 0 g)) in
+      (h, owing-more steps (onPath s (take n a)) first (forAllAt s (getD a i 0)) (λ p. onPath s (drop (i + 1) (take n a))) w w' 0 (subst (λ (os : List ℕ). Owing steps (onPath s (take n a)) first (onPath s os) w) e (l .1)) u)
+
+  pub along-end : (i : ℕ) (w : W) → n ≤ i → Along i w → Runs all (onPath s (take n a)) first w 0
+  unfolding Along onPath
+  along-end i w g l =
+      let e : drop i (take n a) ≡ [] = drop-of-length-le (take n a) {i = i} (rw (length-take-le n a (l .0)) g) in
+      owing-end steps (onPath s (take n a)) first 0 w (subst (λ (os : List ℕ). Owing steps (onPath s (take n a)) first (onPath s os) w) e (l .1))
+
+-- ROWS OF PREDICATES
+
+module _ {W : Type 0} {one : W → Pred → W} {all : W → List Pred → W} (steps : Steps [] _∷_ one all) (s : List ℕ) (m at : ℕ) (first : W) where
+  -- the loop over predicates: n from p on are left
+  pub Through : ℕ → ℕ → W → Type 0
+  Through n p w = Owing steps (many [] _∷_ (decPred deepest) m s at) first (many [] _∷_ (decPred deepest) n s p) w
+
+  pub through-start : Through m at first
+  unfolding Through
+  through-start = owing-start steps (many [] _∷_ (decPred deepest) m s at) first
+
+  pub through-more : (n p : ℕ) (w w' : W) (q : ℕ) → 0 < n → Through n p w → Runs one (decPred deepest s p) w w' q → Through (n - 1) q w'
+  unfolding Through
+  through-more zero p w w' q h l u = absurd (omega arith)
+  through-more (suc n) p w w' q h l u =
+      let en : suc n - 1 ≡ n = omega arith in
+      rw en (owing-more steps (many [] _∷_ (decPred deepest) m s at) first (decPred deepest s p) (many [] _∷_ (decPred deepest) n s) w w' q l u)
+
+  pub through-end : (n p : ℕ) (w : W) → n ≤ 0 → Through n p w → Runs all (many [] _∷_ (decPred deepest) m s at) first w p
+  unfolding Through
+  through-end n p w h l =
+      let en : n ≡ 0 = omega arith in
+      owing-end steps (many [] _∷_ (decPred deepest) m s at) first p w (rw en at l)
+
+  pub through-refused : (n p : ℕ) (w w' : W) (r k : ℕ) → 0 < n → Through n p w → decPred deepest s p ≡ refuse k → Runs all (many [] _∷_ (decPred deepest) m s at) first w' r
+  unfolding Through
+  through-refused zero p w w' r k h l u = absurd (omega arith)
+  through-refused (suc n) p w w' r k h l u =
+      let whole = many [] _∷_ (decPred deepest) m s at in
+      let gone : Owing steps whole first (refuse k) w = rw u at l in
+      owing-end steps whole first r w' (owing-more steps whole first (refuse k) (λ q. got [] r) w w' 0 gone (runs-refused one w w' 0 k))
+
+-- A PREDICATE
+
+-- one that is not literally true, or nothing
+keeps : (enc : Encoder) (p : Pred) (t : Bool) → literallyTrue p ≡ t → keptText enc (p ∷ []) ≡ cond t [] (32 ∷ write-pred enc p ++ [])
+unfolding keptText
+keeps enc p true e = rw e
+keeps enc p false e = rw e
+
+module _ (enc : Encoder) (x : Res Pred) (t : Bool) (e : t ≡ readTrue x) where
+  tested : (p : Pred) (q : ℕ) → x ≡ got p q → literallyTrue p ≡ t
+  tested p q e' = sym (e ∙ ap readTrue e')
+
+  pub guard-other : (o o1 o2 : Output) (q : ℕ) → t ≡ false → o1 ≡ emit o 32 → Sends (write-pred enc) x o1 o2 q
+      → Sends (λ p. keptText enc (p ∷ [])) x o o2 q
+  unfolding Sends emits
+  guard-other o o1 o2 q f e1 w p z e' =
+      let v = w p z e' in
+      let k = keeps enc p false (tested p z e' ∙ f) in
+      (v .0, v .1 ∙ rw (k, e1, emits-append) refl)
+
+  module _ (v : Walked) (e2 : v ≡ walked predFault x) where
+    pub guard-true : (o : Output) (q : ℕ) (f : Fault) → t ≡ true → v ≡ walked-is.Next q f → Sends (λ p. keptText enc (p ∷ [])) x o o q
+    unfolding Sends emits
+    guard-true o q f h e3 p z e' =
+        let y : walked-is.Next q f ≡ walked-is.Next z (predFault p) = sym e3 ∙ e2 ∙ ap (walked predFault) e' in
+        (cc, rw (keeps enc p true (tested p z e' ∙ h)))
+
+-- a piece that the walker refuses is refused
+pub walk-refused : {A W : Type 0} (run : W → A → W) (fault : A → Fault) (x : Res A) (v : Walked) (w w' : W) (r k : ℕ) → v ≡ walked fault x → v ≡ walked-is.Refused k → Runs run x w w' r
+walk-refused run fault x v w w' r k e e' = rw (refused-is fault x k (sym e' ∙ e)) (runs-refused run w w' r k)
+
+pub guard-refused : (enc : Encoder) (x : Res Pred) (v : Walked) (o o' : Output) (r k : ℕ) → v ≡ walked predFault x → v ≡ walked-is.Refused k
+    → Sends (λ p. keptText enc (p ∷ [])) x o o' r
+unfolding Sends
+guard-refused enc x v o o' r k e e' = walk-refused (λ w p. emits w (keptText enc (p ∷ []))) predFault x v o o' r k e e'
+
+-- SENT ONE BY ONE
+
+pub spaced-append : (us vs : List (List ℕ)) → spaced (us ++ vs) ≡ spaced us ++ spaced vs
+spaced-append [] vs = refl
+spaced-append (u ∷ us) vs = ap (λ (w : List ℕ). 32 ∷ w) (ap (λ (w : List ℕ). u ++ w) (spaced-append us vs) ∙ sym (append-assoc u (spaced us) (spaced vs)))
+
+preds-append : (enc : Encoder) (ps qs : List Pred) → write-preds enc (ps ++ qs) ≡ write-preds enc ps ++ write-preds enc qs
+preds-append enc [] qs = refl
+preds-append enc (p ∷ ps) qs = ap (λ (ws : List (List ℕ)). write-pred enc p ∷ ws) (preds-append enc ps qs)
+
+module _ (enc : Encoder) where
+  pub kept-steps : Steps [] _∷_ (λ (o : Output) (p : Pred). emits o (keptText enc (p ∷ []))) (λ o ps. emits o (keptText enc ps))
+  unfolding emits keptText
+  kept-steps = record { none = λ o. refl; step = λ o p ps. step o p ps (literallyTrue p) refl }
+    where
+      step : (o : Output) (p : Pred) (ps : List Pred) (t : Bool) → literallyTrue p ≡ t
+          → emits o (spaced (write-preds enc (kept (p ∷ ps)))) ≡ emits (emits o (spaced (write-preds enc (kept (p ∷ []))))) (spaced (write-preds enc (kept ps)))
+      step o p ps true e = rw e
+      step o p ps false e = rw e (simp emits-append)
+
+  pub vars-steps : Steps [] _∷_ (λ (o : Output) (f : ForAll). emits o (write-binder enc (f .binder))) (λ o fs. emits o (varsText enc fs))
+  unfolding emits varsText
+  vars-steps = record { none = λ o. refl; step = λ o f fs. emits-append o (write-binder enc (f .binder)) _ }
+
+  pub guards-steps : Steps [] _∷_ (λ (o : Output) (f : ForAll). emits o (ownText enc f)) (λ o fs. emits o (guardsText enc fs))
+  unfolding emits ownText guardsText keptText
+  guards-steps = record {
+    none = λ o. refl;
+    step = λ o f fs. rw (preds-append, spaced-append) (emits-append o (spaced (write-preds enc (kept (f .preds)))) (spaced (write-preds enc (guardsOf fs))));
+  }
+
+pub counts-steps : Steps [] _∷_ count counts
+unfolding counts
+counts-steps = record { none = λ n. refl; step = λ n p ps. refl }
+
+pub all-steps : Steps [] _∷_ countOwn countAll
+unfolding countAll
+all-steps = record { none = λ n. refl; step = λ n f fs. refl }
+
+-- 2 stays 2
+full-one : (t : Bool) → cond t 2 (min (2 + 1) 2) ≡ 2
+full-one true = refl
+full-one false = refl
+
+full-row : (ps : List Pred) → counts 2 ps ≡ 2
+unfolding counts
+full-row [] = refl
+full-row (p ∷ ps) = rw (full-one (literallyTrue p)) (full-row ps)
+
+-- AT AN OFFSET
+
+-- a ForAll part by part: its binder, the number of its predicates, and these
+record Parts (s : List ℕ) (o : ℕ) (f : ForAll) (z : ℕ) : Type 0 where
+  p : ℕ
+  n : ℕ
+  q : ℕ
+  r : ℕ
+  binds : binder deepest s o ≡ got (f .binder) p
+  counted-by : number 2 s p ≡ got n q
+  holds : many [] _∷_ (decPred deepest) n s q ≡ got (f .preds) r
+  zero-is : z ≡ 0
+
+parts : (s : List ℕ) (o : ℕ) (f : ForAll) (z : ℕ) → forAllAt s o ≡ got f z → Parts s o f z
+unfolding forAllAt
+parts s o f z e =
+    let i = bind-got (binder deepest s o) _ f z e in
+    let j = bind-got (counted [] _∷_ (decPred deepest) s (i .next)) _ f z (i .then) in
+    let k = bind-got (number 2 s (i .next)) (λ n p. many [] _∷_ (decPred deepest) n s p) (j .value) (j .next) (j .first) in
+    let g : ForAll = record { binder = i .value; preds = j .value } in
+    let h : g ≡ f = cc in
+    record {
+      p = i .next;
+      n = k .value;
+      q = k .next;
+      r = j .next;
+      binds = i .first ∙ ap (λ (x : ForAll). got (x .binder) (i .next)) h;
+      counted-by = k .first;
+      holds = k .then ∙ ap (λ (x : ForAll). got (x .preds) (j .next)) h;
+      zero-is = cc;
+    }
+
+-- its binder is sent
+pub binder-runs : (enc : Encoder) (s : List ℕ) (o : ℕ) (w w' : Output) (q : ℕ) → Sends (write-binder enc) (binder deepest s o) w w' q
+    → Runs (λ (z : Output) (f : ForAll). emits z (write-binder enc (f .binder))) (forAllAt s o) w w' 0
+unfolding Sends
+binder-runs enc s o w w' q u f z e =
+    let i = parts s o f z e in
+    (sym (i .zero-is), u (f .binder) (i .p) (i .binds) .1)
+
+-- its predicates are run: behind the binder stands their number
+module _ {W : Type 0} (all : W → List Pred → W) (s : List ℕ) (o : ℕ) (w w' : W) (v : Walked) (e : v ≡ walked binderFault (binder deepest s o)) where
+  pub own-unbound : (k : ℕ) → v ≡ walked-is.Refused k → Runs (λ z f. all z (f .preds)) (forAllAt s o) w w' 0
+  own-unbound k e' f z g =
+      let i = parts s o f z g in
+      got-refuse (sym (i .binds) ∙ refused-is binderFault (binder deepest s o) k (sym e' ∙ e))
+
+  module _ (p : ℕ) (h : Fault) (e' : v ≡ walked-is.Next p h) (m : Number) (u : number 2 s p ≡ numberOf m) where
+    behind : (f : ForAll) (z : ℕ) (g : forAllAt s o ≡ got f z) → parts s o f z g .p ≡ p
+    behind f z g =
+        let i = parts s o f z g in
+        let x : walked-is.Next p h ≡ walked-is.Next (i .p) (binderFault (f .binder)) = sym e' ∙ e ∙ ap (walked binderFault) (i .binds) in
+        cc
+
+    pub own-uncounted : m ≡ number-is.Refused → Runs (λ z f. all z (f .preds)) (forAllAt s o) w w' 0
+    own-uncounted u' f z g =
+        let i = parts s o f z g in
+        got-refuse (sym (i .counted-by) ∙ ap (number 2 s) (behind f z g) ∙ u ∙ ap numberOf u')
+
+    pub own-runs : (n q : ℕ) → m ≡ number-is.Value n q → ((ps : List Pred) (r : ℕ) → many [] _∷_ (decPred deepest) n s q ≡ got ps r → w' ≡ all w ps)
+        → Runs (λ z f. all z (f .preds)) (forAllAt s o) w w' 0
+    own-runs n q u' k f z g =
+        let i = parts s o f z g in
+        let x : got n q ≡ got (i .n) (i .q) = sym (u ∙ ap numberOf u') ∙ ap (number 2 s) (sym (behind f z g)) ∙ i .counted-by in
+        let en : n ≡ i .n = cc in
+        let eq : q ≡ i .q = cc in
+        (sym (i .zero-is), k (f .preds) (i .r) (rw (en, eq) (i .holds)))
+
+-- COUNTED
+
+module _ (x : Res Pred) (t : Bool) (n : ℕ) (e : t ≡ readTrue x) where
+  pub count-true : t ≡ true → Counts count x n n
+  unfolding Counts
+  count-true h p q e' = rw (sym (e ∙ ap readTrue e') ∙ h)
+
+  pub count-other : (r : ℕ) → t ≡ false → r ≡ min (n + 1) 2 → Counts count x n r
+  unfolding Counts
+  count-other r h g p q e' = g ∙ rw (sym (e ∙ ap readTrue e') ∙ h)
+
+-- where a walker ended there the piece was run
+pub count-runs : (x : Res Pred) (v : Walked) (q : ℕ) (f : Fault) (n r : ℕ) → v ≡ walked predFault x → v ≡ walked-is.Next q f → Counts count x n r → Runs count x n r q
+unfolding Counts
+count-runs x v q f n r e e' u p z g =
+    let y : walked-is.Next q f ≡ walked-is.Next z (predFault p) = sym e' ∙ e ∙ ap (walked predFault) g in
+    (cc, u p z g)
+
+-- the number alone
+pub runs-counts : {A : Type 0} (run : ℕ → A → ℕ) (x : Res A) (n r p : ℕ) → Runs run x n r p → Counts run x n r
+unfolding Counts
+runs-counts run x n r p u a q e = u a q e .1
+
+pub counts-runs : {A : Type 0} (run : ℕ → A → ℕ) (x : Res A) (n r : ℕ) → Counts run x n r → ((a : A) (q : ℕ) → x ≡ got a q → 0 ≡ q) → Runs run x n r 0
+unfolding Counts
+counts-runs run x n r u h a q e = (h a q e, u a q e)
+
+-- the position behind a ForAll is not told
+pub for-all-zero : (s : List ℕ) (o : ℕ) (f : ForAll) (q : ℕ) → forAllAt s o ≡ got f q → 0 ≡ q
+for-all-zero s o f q e = sym (parts s o f q e .zero-is)
+
+-- so that what is left of the path need not be counted
+pub along-full : (s a : List ℕ) (n i w : ℕ) → w ≡ 2 → i < n → Along all-steps s a n 0 i w → Counts countAll (onPath s (take n a)) 0 2
+along-full s a n i w e h l = runs-counts countAll (onPath s (take n a)) 0 2 0 (go (n - i) i (omega arith) (subst (Along all-steps s a n 0 i) e l))
+  where
+    go : (k i : ℕ) → i + k ≡ n → Along all-steps s a n 0 i 2 → Runs countAll (onPath s (take n a)) 0 2 0
+    go zero i e l = along-end all-steps s a n 0 i 2 (omega arith) l
+    go (suc k) i e l =
+        go k (i + 1) (omega arith)
+        (along-more all-steps s a n 0 i 2 2 (omega arith) l (λ f q g. (for-all-zero s (getD a i 0) f q g, sym (full-row (f .preds)))))

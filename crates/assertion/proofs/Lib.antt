@@ -1,0 +1,2 @@
+pub mod Guards
+pub mod Asserts

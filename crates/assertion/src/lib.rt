@@ -1,0 +1,335 @@
+// The writer of one assertion, `write_assert` of `smt_horn.rs`, from the offsets of the ForAlls around the head. The writers read any bytes:
+// what they send is told for a path whose offsets are those of ForAlls, and for a head that decodes.
+use constraint_check::Path;
+use output::Out;
+use smt_sort::Datatypes;
+use smt_word::Sent;
+use task::Number;
+use task::PredNode;
+use task_check::Walked;
+ghost use mathlib.Core.Path.{_≡_};
+ghost use mathlib.Core.List.{[], _∷_};
+ghost use Prim.Native.Nat.{_+_, _≤_, min};
+ghost use Rattle.task.specs.Decode.{many, decExpr, decPred, deepest};
+ghost use Rattle.constraint_check.specs.Around.{entries};
+ghost use Rattle.output.specs.Emit.{output, Sends};
+ghost use Rattle.smt_sort.specs.Section.{encoderIn};
+ghost use Rattle.assertion.specs.Under.{forAllAt, onPath, varsText, keptText, ownText, guardsText, count, counts, countOwn, countAll, Counts, conjunctionText, negationText, kvarText, exprText, implicationText, assertText, HeadSends};
+
+// Sends the binders of the path, without a space between two.
+fn write_vars(s: &[u8], path: Path, types: Datatypes, buf: &mut [u8], out: Out) -> Out
+    requires { ⌜ path .depth ≤ 256 ⌝ }
+    ensures { λ r. ⌜ Sends (varsText (encoderIn (now (s .entry)) types)) (onPath (now (s .entry)) (entries path)) (output (now (buf .entry)) (out .len)) (output (now (buf .exit)) (r .len)) 0 ⌝ }
+{
+    let n = path.depth;
+    let offsets = path.offsets;
+    let mut i: usize = 0;
+    let mut sent = out;
+    while i < n {
+        let at = offsets[i];
+        let one = smt_sort::write_binder(s, at, 256, types, buf, sent);
+        sent = one.out;
+        i += 1;
+    }
+    sent
+}
+
+// Sends the predicate at a position with a space before it, unless it is literally true.
+fn write_guard(s: &[u8], at: usize, types: Datatypes, buf: &mut [u8], out: Out) -> Sent
+    ensures { λ r. ⌜ Sends (λ p. keptText (encoderIn (now (s .entry)) types) (p ∷ [])) (decPred deepest (now (s .entry)) at) (output (now (buf .entry)) (out .len)) (output (now (buf .exit)) (r .out .len)) (r .at) ⌝ }
+{
+    if task_check::is_literally_true(s, at, 256) {
+        let walked = task_check::check_pred(s, at, 256);
+        let Walked::Next(p, _) = walked else {
+            return Sent { at, out };
+        };
+        return Sent { at: p, out };
+    }
+    let spaced = out.byte(buf, b' ');
+    smt_fmt::write_pred(s, at, 256, types, buf, spaced)
+}
+
+// Sends those of n predicates that are not literally true, a space before each.
+fn write_kept(s: &[u8], at: usize, n: u64, types: Datatypes, buf: &mut [u8], out: Out) -> Sent
+    ensures { λ r. ⌜ Sends (keptText (encoderIn (now (s .entry)) types)) (many [] _∷_ (decPred deepest) n (now (s .entry)) at) (output (now (buf .entry)) (out .len)) (output (now (buf .exit)) (r .out .len)) (r .at) ⌝ }
+{
+    let mut p = at;
+    let mut left = n;
+    let mut sent = out;
+    while 0 < left {
+        let one = write_guard(s, p, types, buf, sent);
+        p = one.at;
+        sent = one.out;
+        left -= 1;
+    }
+    Sent { at: p, out: sent }
+}
+
+// Sends those of the ForAll at an offset.
+fn write_own_guards(s: &[u8], at: usize, types: Datatypes, buf: &mut [u8], out: Out) -> Out
+    ensures { λ r. ⌜ Sends (ownText (encoderIn (now (s .entry)) types)) (forAllAt (now (s .entry)) at) (output (now (buf .entry)) (out .len)) (output (now (buf .exit)) (r .len)) 0 ⌝ }
+{
+    let binder = task_check::check_binder(s, at, 256);
+    let Walked::Next(p, _) = binder else {
+        return out;
+    };
+    let number = task::number_at(s, p, 2);
+    let Number::Value(n, q) = number else {
+        return out;
+    };
+    let kept = write_kept(s, q, n, types, buf, out);
+    kept.out
+}
+
+// Sends those of the path.
+fn write_guards(s: &[u8], path: Path, types: Datatypes, buf: &mut [u8], out: Out) -> Out
+    requires { ⌜ path .depth ≤ 256 ⌝ }
+    ensures { λ r. ⌜ Sends (guardsText (encoderIn (now (s .entry)) types)) (onPath (now (s .entry)) (entries path)) (output (now (buf .entry)) (out .len)) (output (now (buf .exit)) (r .len)) 0 ⌝ }
+{
+    let n = path.depth;
+    let offsets = path.offsets;
+    let mut i: usize = 0;
+    let mut sent = out;
+    while i < n {
+        let at = offsets[i];
+        sent = write_own_guards(s, at, types, buf, sent);
+        i += 1;
+    }
+    sent
+}
+
+// One more, up to 2.
+fn one_more(n: u64) -> u64
+    ensures { λ r. ⌜ r ≡ min (n + 1) 2 ⌝ }
+{
+    if n == 0 {
+        return 1;
+    }
+    2
+}
+
+// Counts the predicate at a position unless it is literally true, up to 2.
+fn count_guard(s: &[u8], at: usize, have: u64) -> u64
+    ensures { λ r. ⌜ Counts count (decPred deepest (now (s .entry)) at) have r ⌝ }
+{
+    if task_check::is_literally_true(s, at, 256) {
+        return have;
+    }
+    one_more(have)
+}
+
+// Counts those of n predicates that are not literally true, up to 2.
+fn count_kept(s: &[u8], at: usize, n: u64, have: u64) -> u64
+    ensures { λ r. ⌜ Counts counts (many [] _∷_ (decPred deepest) n (now (s .entry)) at) have r ⌝ }
+{
+    let mut p = at;
+    let mut left = n;
+    let mut sum = have;
+    while 0 < left {
+        let walked = task_check::check_pred(s, p, 256);
+        let Walked::Next(q, _) = walked else {
+            return sum;
+        };
+        sum = count_guard(s, p, sum);
+        p = q;
+        left -= 1;
+    }
+    sum
+}
+
+// Counts those of the ForAll at an offset.
+fn count_own_guards(s: &[u8], at: usize, have: u64) -> u64
+    ensures { λ r. ⌜ Counts countOwn (forAllAt (now (s .entry)) at) have r ⌝ }
+{
+    let binder = task_check::check_binder(s, at, 256);
+    let Walked::Next(p, _) = binder else {
+        return have;
+    };
+    let number = task::number_at(s, p, 2);
+    let Number::Value(n, q) = number else {
+        return have;
+    };
+    count_kept(s, q, n, have)
+}
+
+// Counts those of the path, up to 2.
+fn count_guards(s: &[u8], path: Path) -> u64
+    requires { ⌜ path .depth ≤ 256 ⌝ }
+    ensures { λ r. ⌜ Counts countAll (onPath (now (s .entry)) (entries path)) 0 r ⌝ }
+{
+    let n = path.depth;
+    let offsets = path.offsets;
+    let mut i: usize = 0;
+    let mut sum: u64 = 0;
+    while i < n {
+        if sum == 2 {
+            return 2;
+        }
+        let at = offsets[i];
+        sum = count_own_guards(s, at, sum);
+        i += 1;
+    }
+    sum
+}
+
+// Sends the guards before a KVar head and a space before them: `true` for none, one alone, more under `and`.
+fn write_guard_conjunction(s: &[u8], path: Path, types: Datatypes, buf: &mut [u8], out: Out) -> Out
+    requires { ⌜ path .depth ≤ 256 ⌝ }
+    ensures { λ r. ⌜ Sends (conjunctionText (encoderIn (now (s .entry)) types)) (onPath (now (s .entry)) (entries path)) (output (now (buf .entry)) (out .len)) (output (now (buf .exit)) (r .len)) 0 ⌝ }
+{
+    let guards = count_guards(s, path);
+    if guards == 0 {
+        return out.bytes(buf, b" true");
+    }
+    if guards == 1 {
+        return write_guards(s, path, types, buf, out);
+    }
+    let opened = out.bytes(buf, b" (and");
+    let listed = write_guards(s, path, types, buf, opened);
+    listed.byte(buf, b')')
+}
+
+// Sends the guards with the negation of the expression at a position, all under one `and` if there are guards.
+fn write_negation(
+    s: &[u8],
+    path: Path,
+    at: usize,
+    levels: usize,
+    types: Datatypes,
+    buf: &mut [u8],
+    out: Out,
+) -> Sent
+    requires { ⌜ path .depth ≤ 256 ⌝ }
+    ensures { λ r. ⌜ HeadSends (negationText (encoderIn (now (s .entry)) types)) (onPath (now (s .entry)) (entries path)) (decExpr levels (now (s .entry)) at) (output (now (buf .entry)) (out .len)) (output (now (buf .exit)) (r .out .len)) (r .at) ⌝ }
+{
+    let guards = count_guards(s, path);
+    if guards == 0 {
+        let opened = out.bytes(buf, b" (not ");
+        let expr = smt_expr::write_expr(s, at, levels, types, buf, opened);
+        let sent = expr.out;
+        let closed = sent.byte(buf, b')');
+        return Sent {
+            at: expr.at,
+            out: closed,
+        };
+    }
+    let opened = out.bytes(buf, b" (and");
+    let listed = write_guards(s, path, types, buf, opened);
+    let negated = listed.bytes(buf, b" (not ");
+    let expr = smt_expr::write_expr(s, at, levels, types, buf, negated);
+    let sent = expr.out;
+    let closed = sent.bytes(buf, b"))");
+    Sent {
+        at: expr.at,
+        out: closed,
+    }
+}
+
+// Sends the implication of a KVar head.
+fn write_kvar_head(
+    s: &[u8],
+    path: Path,
+    at: usize,
+    levels: usize,
+    types: Datatypes,
+    buf: &mut [u8],
+    out: Out,
+) -> Sent
+    requires { ⌜ path .depth ≤ 256 ⌝ }
+    ensures { λ r. ⌜ HeadSends (kvarText (encoderIn (now (s .entry)) types)) (onPath (now (s .entry)) (entries path)) (decPred levels (now (s .entry)) at) (output (now (buf .entry)) (out .len)) (output (now (buf .exit)) (r .out .len)) (r .at) ⌝ }
+{
+    let opened = out.bytes(buf, b"(=>");
+    let guarded = write_guard_conjunction(s, path, types, buf, opened);
+    let spaced = guarded.byte(buf, b' ');
+    let head = smt_fmt::write_pred(s, at, levels, types, buf, spaced);
+    let sent = head.out;
+    let closed = sent.byte(buf, b')');
+    Sent {
+        at: head.at,
+        out: closed,
+    }
+}
+
+// Sends the implication of an expression head: false from its negation.
+fn write_expr_head(
+    s: &[u8],
+    path: Path,
+    at: usize,
+    levels: usize,
+    types: Datatypes,
+    buf: &mut [u8],
+    out: Out,
+) -> Sent
+    requires { ⌜ path .depth ≤ 256 ⌝ }
+    ensures { λ r. ⌜ HeadSends (exprText (encoderIn (now (s .entry)) types)) (onPath (now (s .entry)) (entries path)) (decExpr levels (now (s .entry)) at) (output (now (buf .entry)) (out .len)) (output (now (buf .exit)) (r .out .len)) (r .at) ⌝ }
+{
+    let opened = out.bytes(buf, b"(=>");
+    let negation = write_negation(s, path, at, levels, types, buf, opened);
+    let sent = negation.out;
+    let closed = sent.bytes(buf, b" false)");
+    Sent {
+        at: negation.at,
+        out: closed,
+    }
+}
+
+// Sends the implication of the head at a position.
+fn write_implication(
+    s: &[u8],
+    path: Path,
+    at: usize,
+    levels: usize,
+    types: Datatypes,
+    buf: &mut [u8],
+    out: Out,
+) -> Sent
+    requires { ⌜ path .depth ≤ 256 ⌝ }
+    ensures { λ r. ⌜ HeadSends (implicationText (encoderIn (now (s .entry)) types)) (onPath (now (s .entry)) (entries path)) (decPred levels (now (s .entry)) at) (output (now (buf .entry)) (out .len)) (output (now (buf .exit)) (r .out .len)) (r .at) ⌝ }
+{
+    if levels == 0 {
+        return Sent { at, out };
+    }
+    let below = levels - 1;
+    let node = task::read_pred_node(s, at);
+    match node {
+        PredNode::KVar(_, _, _) => write_kvar_head(s, path, at, levels, types, buf, out),
+        PredNode::Expr(p) => write_expr_head(s, path, p, below, types, buf, out),
+        PredNode::Refused => Sent { at, out },
+    }
+}
+
+// Sends the assertion of the head at a position, inside the ForAlls of the path.
+pub fn write_assert(
+    s: &[u8],
+    path: Path,
+    at: usize,
+    levels: usize,
+    types: Datatypes,
+    buf: &mut [u8],
+    out: Out,
+) -> Sent
+    requires { ⌜ path .depth ≤ 256 ⌝ }
+    ensures { λ r. ⌜ HeadSends (assertText (encoderIn (now (s .entry)) types)) (onPath (now (s .entry)) (entries path)) (decPred levels (now (s .entry)) at) (output (now (buf .entry)) (out .len)) (output (now (buf .exit)) (r .out .len)) (r .at) ⌝ }
+{
+    let opened = out.bytes(buf, b"(assert ");
+    let depth = path.depth;
+    if depth == 0 {
+        let body = write_implication(s, path, at, levels, types, buf, opened);
+        let sent = body.out;
+        let closed = sent.bytes(buf, b")\n");
+        return Sent {
+            at: body.at,
+            out: closed,
+        };
+    }
+    let quantified = opened.bytes(buf, b"(forall (");
+    let vars = write_vars(s, path, types, buf, quantified);
+    let parted = vars.bytes(buf, b") ");
+    let body = write_implication(s, path, at, levels, types, buf, parted);
+    let sent = body.out;
+    let closed = sent.bytes(buf, b"))\n");
+    Sent {
+        at: body.at,
+        out: closed,
+    }
+}

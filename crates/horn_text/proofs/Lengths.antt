@@ -1,0 +1,295 @@
+-- The script of a file of bytes is shorter than 2^40 bytes: `script-short`. An item takes at most 500000 bytes of text for each byte it is
+-- decoded from. There are no more assertions than bytes, and an assertion is at most 1000000 bytes long.
+use Prim.Native.Nat.{ℕ, zero, suc, _+_, _-_, _*_, _^_, _≤_, _<_}
+use mathlib.Core.Path.{_≡_, refl, sym, _∙_}
+use mathlib.Core.Bool.{Bool, true, false, cond}
+use mathlib.Core.Logic.{⊎-elim}
+use mathlib.Core.List.{List, [], _∷_, _++_, map, map-append}
+use native.Mathlib.Omega.{arith}
+use lib.Dec.{leb, eqb}
+use lib.ListN.{length, take, getD, length-append, length-take}
+use borrow.Author.Tests.{le-leb, lt-leb}
+use Rattle.smtlib.specs.Lexicon.{bytes}
+use Rattle.smtlib.specs.Compose.{line}
+use Rattle.task.specs.Ast.{Binder, Pred, Constraint, Constraints, Task}
+use Rattle.task.specs.Decode.{Res, got, refuse, bind, Decoder, items, decConstraint, comment, datatype, constant, function, kvar, deepest, section}
+use Rattle.task.specs.Fault.{refusalOf, taskFault}
+use Rattle.task.specs.Task.{literallyTrue, predHeads, headsOf, headsIn, bound, framed, within, decoded, judged, taskOf}
+use Rattle.task.specs.Covers.{CoversSome}
+use Rattle.task.proofs.Reading.{bind-got, got-refuse, le-or-lt}
+use Rattle.task.proofs.Pieces.{each-covers}
+use Rattle.smt_text.specs.Encoder.{Encoder, encoder}
+use Rattle.smt_text.specs.Text.{write-name, write-binder, write-binders, write-unary, write-expr, write-pred, write-datatype-decl}
+use Rattle.smt_text.specs.Theorems.{Bounded, none}
+use Rattle.smt_text.proofs.Bounds.{Costs, refused, free, _⟫_, names, texts, rows, end, _∣_, codes, wide, wides, spaced-length, sorts, preds, datatypes, bounds}
+use Rattle.horn_text.specs.Clauses.{HornClause, kept, flatten-constraint, flatten-constraints}
+use Rattle.horn_text.specs.Script.{join, write-preds, write-guard-conjunction, write-negation, write-implication, write-forall, write-assert, write-asserts, write-comment, opening, closing, scriptOf}
+use Rattle.horn_text.specs.Theorems.{ScriptShort}
+
+-- TEXTS IN A ROW
+
+-- a size that is the sum over the pieces of a list
+sums : {A : Type 0} (one : A → ℕ) (size : List A → ℕ) → size [] ≡ 0 → ((x : A) (xs : List A) → size (x ∷ xs) ≡ one x + size xs)
+    → (xs ys : List A) → size (xs ++ ys) ≡ size xs + size ys
+sums one size h g [] ys = omega arith
+sums one size h g (x ∷ xs) ys = omega (arith, g x xs, g x (xs ++ ys), sums one size h g xs ys)
+
+-- texts behind others
+joined : (us vs : List (List ℕ)) → length (join (us ++ vs)) ≡ length (join us) + length (join vs)
+joined us vs = sums length (λ ws. length (join ws)) refl (λ w ws. length-append w (join ws)) us vs
+
+-- texts without a space between them
+join-length : (ws : List (List ℕ)) → length (join ws) ≤ wides ws
+join-length [] = omega arith
+join-length (w ∷ ws) = simp length-append (omega (arith, join-length ws))
+
+-- SECTIONS
+
+-- A text has 16 bytes for each byte that its piece is decoded from, and may have a datatype's parameters besides.
+abbrev Paid : {A : Type 0} → (A → List ℕ) → Decoder A → Type 0
+Paid text d = Bounded (λ a. 7 * 65535) text d
+
+-- what has nothing apart
+paid : {A : Type 0} {text : A → List ℕ} {d : Decoder A} → Bounded none text d → Paid text d
+paid f = record { bounded = λ s b at a p e. omega (arith, f .bounded s b at a p e) }
+
+-- a datatype has at most 65535 parameters
+datatypes-paid : (enc : Encoder) → Paid (write-datatype-decl enc) datatype
+datatypes-paid enc = record { bounded = λ s b at a p e. omega (arith, datatypes enc .costs s b at a p e) }
+
+-- a comment's line has 4 bytes more than the comment, which has 2 bytes for its length
+comments-paid : Paid write-comment comment
+comments-paid = record { bounded = λ s b at a p e. simp length-append (omega (arith, texts .costs s b at a p e)) }
+
+-- the items of a section: each takes a byte at least, so no byte pays for the parameters of two
+module _ {A : Type 0} {text : A → List ℕ} {d : Decoder A} (c : CoversSome d) (f : Paid text d)
+    (s : List ℕ) (b : (i : ℕ) → getD s i 0 < 256) where
+  items-short : (n at : ℕ) (xs : List A) (q : ℕ) → items n d s at ≡ got xs q → length (join (map text xs)) ≤ 500000 * (length s - at)
+  unfolding items
+  items-short zero at xs q e = let z : [] ≡ xs = cc in rw (← z) (omega arith)
+  items-short (suc n) at xs q e = go (leb (length s) at) e (λ p ys r h. items-short n p ys r h)
+    where
+      go : (t : Bool) → cond t (got [] at) (bind (d s at) (λ a p. bind (items n d s p) (λ b r. got (a ∷ b) r))) ≡ got xs q
+          → ((p : ℕ) (ys : List A) (r : ℕ) → items n d s p ≡ got ys r → length (join (map text ys)) ≤ 500000 * (length s - p))
+          → length (join (map text xs)) ≤ 500000 * (length s - at)
+      go true e rec = let z : [] ≡ xs = cc in rw (← z) (omega arith)
+      go false e rec =
+          let x = bind-got (d s at) (λ a p. bind (items n d s p) (λ b r. got (a ∷ b) r)) xs q e in
+          let y = bind-got (items n d s (x .next)) (λ b r. got (x .value ∷ b) r) xs q (x .then) in
+          let u = c .covered s at (x .value) (x .next) (x .first) in
+          let i = u .inside (omega (arith, u .room)) in
+          let h = f .bounded s b at (x .value) (x .next) (x .first) in
+          let k = rec (x .next) (y .value) (y .next) (y .first) in
+          let z : x .value ∷ y .value ≡ xs = cc in
+          rw (← z, length-append) (omega (arith, u .room, u .end))
+
+-- ASSERTIONS
+
+module _ (enc : Encoder) where
+  -- the binders around a text
+  forall-length : (bs : List Binder) (w : List ℕ) → length (write-forall enc bs w) ≤ 12 + wides (write-binders enc bs) + length w
+  forall-length [] w = omega arith
+  forall-length (b ∷ bs) w = simp length-append (omega (arith, join-length (write-binders enc bs)))
+
+  -- the guards before a KVar head
+  guards-length : (gs : List Pred) → length (write-guard-conjunction enc gs) ≤ 5 + wides (write-preds enc gs)
+  guards-length [] = omega arith
+  guards-length (g ∷ []) = omega arith
+  guards-length (g ∷ h ∷ gs) = simp length-append (omega (arith, spaced-length (write-preds enc gs)))
+
+  -- the guards and the negation of an expression head
+  negation-length : (gs : List Pred) (n : List ℕ) → length (write-negation enc gs n) ≤ 9 + wides (write-preds enc gs) + length n
+  negation-length [] n = omega arith
+  negation-length (g ∷ gs) n =
+      let h = spaced-length (write-preds enc gs ++ n ∷ []) in
+      let k = sums wide wides refl (λ w ws. refl) (write-preds enc gs) (n ∷ []) in
+      simp length-append (omega arith)
+
+  -- the guards and the head
+  implication-length : (gs : List Pred) (p : Pred)
+      → length (write-implication enc gs p) ≤ 26 + wides (write-preds enc gs) + length (write-pred enc p)
+  unfolding write-implication write-pred
+  implication-length gs (Pred.kvar k es) = simp length-append (omega (arith, guards-length gs))
+  implication-length gs (Pred.expr e) =
+      let n = write-unary (bytes "not") (write-expr enc e) in
+      let k : length n ≤ 6 + length (write-pred enc (Pred.expr e)) = simp length-append (omega arith) in
+      simp length-append (omega (arith, negation-length gs n))
+
+  -- the binders and the guards that an assertion is given
+  abbrev path : List Binder → List Pred → ℕ
+  path bs gs = wides (write-binders enc bs) + wides (write-preds enc gs)
+
+  -- an assertion is 64 bytes longer at most than what it is made of
+  assert-length : (c : HornClause) → length (write-assert enc c) ≤ 64 + path (c .vars) (c .guards) + length (write-pred enc (c .head))
+  unfolding write-assert
+  assert-length c =
+      let h = forall-length (c .vars) (write-implication enc (c .guards) (c .head)) in
+      let k = implication-length (c .guards) (c .head) in
+      simp length-append (omega arith)
+
+  -- the predicates that are not literally true are no more than all of them
+  kept-less : (ps : List Pred) → wides (write-preds enc (kept ps)) ≤ wides (write-preds enc ps)
+  kept-less [] = omega arith
+  kept-less (p ∷ ps) = go (literallyTrue p) (kept-less ps)
+    where
+      go : (t : Bool) → wides (write-preds enc (kept ps)) ≤ wides (write-preds enc ps)
+          → wides (write-preds enc (cond t (kept ps) (p ∷ kept ps))) ≤ wides (write-preds enc (p ∷ ps))
+      go true h = omega arith
+      go false h = omega arith
+
+  -- the text of the binders and predicates of a constraint, each of them once
+  mutual
+    weight : Constraint → ℕ
+    weight (Constraint.pred p) = wide (write-pred enc p)
+    weight (Constraint.conj cs) = weights cs
+    weight (Constraint.forAll x b ps c) = wide (write-binder enc (record { name = x; sort = b })) + wides (write-preds enc ps) + weight c
+
+    weights : Constraints → ℕ
+    weights Constraints.none = 0
+    weights (Constraints.more c cs) = weight c + weights cs
+
+  -- 16 bytes for each byte that a constraint is decoded from pay for that
+  weighed : (l : ℕ) → Costs 0 weight (decConstraint l)
+  unfolding decConstraint weight write-binder write-name
+  weighed zero = refused
+  weighed (suc l) =
+      codes (
+      (preds enc l ⟫ λ p. free (omega arith)) ∣
+      (rows weights Constraints.none Constraints.more (omega arith) (λ a b. omega arith) (weighed l) ⟫ λ cs. free (omega arith)) ∣
+      (names ⟫ λ x. sorts enc l ⟫ λ b. rows (λ ps. wides (write-preds enc ps)) [] _∷_ (omega arith) (λ a b. omega arith) (preds enc l) ⟫ λ ps.
+      weighed l ⟫ λ c. free (simp length-append (omega arith))) ∣
+      end)
+
+  -- a head gives one assertion, or none if it is literally true
+  one-clause : (t : Bool) (c : HornClause) → length (write-assert enc c) ≤ 1000000
+      → length (join (write-asserts enc (cond t [] (c ∷ [])))) ≤ 1000000 * cond t 0 1
+  one-clause true c h = omega arith
+  one-clause false c h = simp length-append (omega arith)
+
+  -- The path to a head holds each binder and each predicate of the constraint at most once, so none of the assertions is longer than that.
+  mutual
+    unfolding flatten-constraint headsOf predHeads weight
+
+    clauses-short : (c : Constraint) (bs : List Binder) (gs : List Pred) → 64 + path bs gs + weight c ≤ 1000000
+        → length (join (write-asserts enc (flatten-constraint c bs gs))) ≤ 1000000 * headsOf c
+    clauses-short (Constraint.pred p) bs gs h =
+        let c : HornClause = record { vars = bs; guards = gs; head = p } in
+        one-clause (literallyTrue p) c (omega (arith, assert-length c))
+    clauses-short (Constraint.conj cs) bs gs h = all-short cs bs gs h
+    clauses-short (Constraint.forAll x b ps c) bs gs h =
+        let y : Binder = record { name = x; sort = b } in
+        let i = sums (λ v. wide (write-binder enc v)) (λ vs. wides (write-binders enc vs)) refl (λ v vs. refl) bs (y ∷ []) in
+        let j = sums (λ p. wide (write-pred enc p)) (λ qs. wides (write-preds enc qs)) refl (λ q qs. refl) gs (kept ps) in
+        clauses-short c (bs ++ y ∷ []) (gs ++ kept ps) (omega (arith, kept-less ps))
+
+    all-short : (cs : Constraints) (bs : List Binder) (gs : List Pred) → 64 + path bs gs + weights cs ≤ 1000000
+        → length (join (write-asserts enc (flatten-constraints cs bs gs))) ≤ 1000000 * headsIn cs
+    all-short Constraints.none bs gs h = omega arith
+    all-short (Constraints.more c cs) bs gs h =
+        let i = clauses-short c bs gs (omega arith) in
+        let j = all-short cs bs gs (omega arith) in
+        let xs = flatten-constraint c bs gs in
+        let ys = flatten-constraints cs bs gs in
+        rw (map-append (write-assert enc) xs ys) (omega (arith, joined (write-asserts enc xs) (write-asserts enc ys)))
+
+-- THE WHOLE
+
+-- texts that are short enough together
+record Short (ws : List (List ℕ)) : Type 0 where
+  short : length (join ws) ≤ 60000000000
+
+-- the opening is 19 bytes longer at most than the comments' lines
+opening-length : (cs : List (List ℕ)) → length (opening cs) ≤ 19 + length (join (map write-comment cs))
+unfolding opening
+opening-length [] = omega arith
+opening-length (c ∷ cs) = omega (arith, length-append (join (map write-comment (c ∷ cs))) (line []))
+
+-- the parts together
+parts-short : {ds bs fs ks xs : List (List ℕ)} (cs : List (List ℕ)) → Short (map write-comment cs) → Short ds → Short bs → Short fs → Short ks → Short xs
+    → length (join (opening cs ∷ ((ds ++ (bs ++ (fs ++ ks))) ++ line [] ∷ (xs ++ closing ∷ [])))) < 2 ^ 40
+unfolding closing
+parts-short {ds} {bs} {fs} {ks} {xs} cs c d b f k a =
+    rw (length-append, joined (ds ++ (bs ++ (fs ++ ks))) (line [] ∷ (xs ++ closing ∷ [])), joined ds (bs ++ (fs ++ ks)), joined bs (fs ++ ks), joined fs ks)
+    (simp length-append (omega (arith, joined xs (closing ∷ []), opening-length cs, c .short, d .short, b .short, f .short, k .short, a .short)))
+
+-- a part of a file of bytes
+taken : (n : ℕ) (s : List ℕ) → ((i : ℕ) → getD s i 0 < 256) → (i : ℕ) → getD (take n s) i 0 < 256
+taken zero s h i = omega arith
+taken (suc n) [] h i = h i
+taken (suc n) (x ∷ s) h zero = h 0
+taken (suc n) (x ∷ s) h (suc i) = taken n s (λ j. h (suc j)) i
+
+-- a test that was passed
+pub cond-got : {A : Type 0} (t : Bool) (x : Res A) (k : ℕ) {a : A} {p : ℕ} → cond t x (refuse k) ≡ got a p → x ≡ got a p
+cond-got true x k e = e
+cond-got false x k e = got-refuse (sym e)
+
+module _ (file : List ℕ) (b : (i : ℕ) → getD file i 0 < 256) (l : length file ≤ 60000) where
+  -- a section of a file of at most 60000 bytes
+  section-short : {A : Type 0} {text : A → List ℕ} {d : Decoder A} → CoversSome d → Paid text d
+      → (i : ℕ) {xs : List A} {q : ℕ} → within file i (section d) ≡ got xs q → Short (map text xs)
+  section-short c f i {xs} {q} e =
+      let n = bound file (i + 1) in
+      let s = take n file in
+      record { short = omega (arith, items-short c f s (taken n file b) (length s) (bound file i) xs q e, length-take n file) }
+
+  -- the constraint of such a file
+  constraint-short : (enc : Encoder) (c : Constraint) (q : ℕ) → within file 5 (decConstraint deepest) ≡ got c q
+      → Short (write-asserts enc (flatten-constraint c [] []))
+  constraint-short enc c q e =
+      let n = bound file 6 in
+      let at = bound file 5 in
+      let s = take n file in
+      let w = weighed enc deepest .costs s (taken n file b) at c q e in
+      let x = each-covers .constraints deepest .covered s at c q e in
+      let y = each-covers .heads deepest .covered s at c q e in
+      let i = x .inside (omega (arith, x .room)) in
+      let m = length-take n file in
+      let h = clauses-short enc c [] [] (omega arith) in
+      record { short = omega (arith, y .room, y .end) }
+
+  -- a file that decodes
+  decoded-short : (t : Task) (q : ℕ) → decoded file ≡ got t q → length (scriptOf t) < 2 ^ 40
+  unfolding decoded
+  decoded-short t q e =
+      let x0 = bind-got (within file 0 (section comment)) _ t q e in
+      let x1 = bind-got (within file 1 (section datatype)) _ t q (x0 .then) in
+      let x2 = bind-got (within file 2 (section constant)) _ t q (x1 .then) in
+      let x3 = bind-got (within file 3 (section function)) _ t q (x2 .then) in
+      let x4 = bind-got (within file 4 (section kvar)) _ t q (x3 .then) in
+      let x5 = bind-got (within file 5 (decConstraint deepest)) _ t q (x4 .then) in
+      let whole : Task = record {
+        comments = x0 .value;
+        datatypes = x1 .value;
+        constants = x2 .value;
+        functions = x3 .value;
+        kvars = x4 .value;
+        constraint = x5 .value;
+      } in
+      let g = cond-got (eqb (x5 .next) (bound file 6)) (got whole (x5 .next)) 2 (x5 .then) in
+      let z : whole ≡ t = cc in
+      let enc = encoder (x1 .value) in
+      rw (← z) (parts-short (x0 .value)
+      (section-short (each-covers .comments) comments-paid 0 (x0 .first))
+      (section-short (each-covers .datatypes) (datatypes-paid enc) 1 (x1 .first))
+      (section-short (each-covers .constants) (paid (bounds enc .constants)) 2 (x2 .first))
+      (section-short (each-covers .functions) (paid (bounds enc .functions)) 3 (x3 .first))
+      (section-short (each-covers .kvars) (paid (bounds enc .kvars)) 4 (x4 .first))
+      (constraint-short enc (x5 .value) (x5 .next) (x5 .first)))
+
+-- a longer file is refused
+too-long : (file : List ℕ) → 60000 < length file → taskOf file ≡ refuse 1
+unfolding taskOf framed
+too-long file h = rw (le-leb 28 (length file) (omega arith), lt-leb (length file) 60000 h)
+
+pub script-short : ScriptShort
+unfolding taskOf judged
+script-short file t q b e =
+    ⊎-elim
+    (λ l.
+    let x = bind-got (decoded file) judged t q (cond-got (framed file) (bind (decoded file) judged) 1 e) in
+    let r = refusalOf (taskFault (x .value)) in
+    let z = cond-got (eqb r 0) (got (x .value) (x .next)) r (x .then) in
+    decoded-short file b l t q (x .first ∙ z))
+    (λ h. got-refuse (sym e ∙ too-long file h))
+    (le-or-lt (length file) 60000)

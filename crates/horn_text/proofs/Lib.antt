@@ -1,0 +1,6 @@
+pub mod Readings
+pub mod Places
+pub mod Lengths
+pub mod Refusals
+pub mod Demands
+pub mod Rows

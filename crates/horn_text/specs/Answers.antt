@@ -1,0 +1,72 @@
+-- What the three calls answer and leave in the buffer, at every file, number and buffer: document 01, "What each call says no to".
+use Prim.Native.Nat.{ℕ}
+use mathlib.Core.Bool.{cond}
+use mathlib.Core.List.{List, [], _∷_, _++_}
+use lib.Dec.{leb, ltb}
+use lib.ListN.{length, drop, getD}
+use Rattle.task.specs.Ast.{Task}
+use Rattle.task.specs.Decode.{Res, got, refuse}
+use Rattle.task.specs.Task.{taskOf}
+use Rattle.horn_text.specs.Clauses.{clausesOf}
+use Rattle.horn_text.specs.Script.{partsOf, scriptOf, longest}
+
+-- the values of a success, or the number of a refusal alone
+pub data Answer : Type 0 where
+  values : List ℕ → Answer
+  refused : ℕ → Answer
+
+-- SURVEY
+
+abbrev pub surveyOf : Res Task → Answer
+surveyOf (got t end) = values (length (partsOf t) ∷ length (clausesOf t) ∷ length (scriptOf t) ∷ longest (partsOf t) ∷ [])
+surveyOf (refuse n) = refused n
+
+-- the numbers of parts and of assertions, the length of the script and that of its longest part; or 1 to 7
+unfoldable pub surveyAnswer : List ℕ → Answer
+surveyAnswer file = surveyOf (taskOf file)
+
+-- A TEXT IN A BUFFER
+
+-- its length; or 9 if it is longer than the buffer
+abbrev pub fitted : List ℕ → ℕ → Answer
+fitted text room = cond (leb (length text) room) (values (length text ∷ [])) (refused 9)
+
+-- it stands at the buffer's start and the bytes behind it are unchanged; if it is longer than the buffer all are
+abbrev pub laid : List ℕ → List ℕ → List ℕ
+laid text buf = cond (leb (length text) (length buf)) (text ++ drop (length text) buf) buf
+
+-- PART
+
+abbrev pub partOf : Res Task → ℕ → ℕ → Answer
+partOf (got t end) i room = cond (ltb i (length (partsOf t))) (fitted (getD (partsOf t) i []) room) (refused 8)
+partOf (refuse n) i room = refused n
+
+-- the length of part i; or 1 to 7, then 8 if there is no such part, then 9
+unfoldable pub partAnswer : List ℕ → ℕ → ℕ → Answer
+partAnswer file i room = partOf (taskOf file) i room
+
+abbrev pub partLaid : Res Task → ℕ → List ℕ → List ℕ
+partLaid (got t end) i buf = cond (ltb i (length (partsOf t))) (laid (getD (partsOf t) i []) buf) buf
+partLaid (refuse n) i buf = buf
+
+-- what is in the buffer then
+unfoldable pub partBuffer : List ℕ → ℕ → List ℕ → List ℕ
+partBuffer file i buf = partLaid (taskOf file) i buf
+
+-- SCRIPT
+
+abbrev pub scriptFitted : Res Task → ℕ → Answer
+scriptFitted (got t end) room = fitted (scriptOf t) room
+scriptFitted (refuse n) room = refused n
+
+-- the length of the script; or 1 to 7, then 9
+unfoldable pub scriptAnswer : List ℕ → ℕ → Answer
+scriptAnswer file room = scriptFitted (taskOf file) room
+
+abbrev pub scriptLaid : Res Task → List ℕ → List ℕ
+scriptLaid (got t end) buf = laid (scriptOf t) buf
+scriptLaid (refuse n) buf = buf
+
+-- what is in the buffer then
+unfoldable pub scriptBuffer : List ℕ → List ℕ → List ℕ
+scriptBuffer file buf = scriptLaid (taskOf file) buf

@@ -1,0 +1,154 @@
+-- Document 01's table ("To the testers"): what the calls answer and leave in the buffer, at the files that it names.
+use Prim.Native.Nat.{ℕ, _+_}
+use Prim.Native.String.{String}
+use mathlib.Core.Path.{_≡_}
+use mathlib.Core.List.{List, [], _∷_, _++_}
+use lib.ListN.{length, replicate}
+use Rattle.smtlib.specs.Lexicon.{bytes}
+use Rattle.smtlib.specs.Compose.{line}
+use Rattle.horn_text.specs.Script.{join}
+use Rattle.horn_text.specs.Answers.{Answer, values, refused, surveyAnswer, partAnswer, partBuffer, scriptAnswer, scriptBuffer}
+
+-- CALLS AND TEXTS
+
+-- n zero bytes
+abbrev pub zeros : ℕ → List ℕ
+zeros n = replicate n 0
+
+-- what part answers, and what it leaves in the buffer
+abbrev pub partCall : List ℕ → ℕ → List ℕ → Answer × List ℕ
+partCall file i buf = (partAnswer file i (length buf), partBuffer file i buf)
+
+-- what script answers, and what it leaves in the buffer
+abbrev pub scriptCall : List ℕ → List ℕ → Answer × List ℕ
+scriptCall file buf = (scriptAnswer file (length buf), scriptBuffer file buf)
+
+-- a text by its lines
+abbrev pub lines : List String → List ℕ
+lines [] = []
+lines (s ∷ ss) = line (bytes s) ++ lines ss
+
+-- FILES
+
+-- the four bytes of a number below 256
+abbrev pub offset : ℕ → List ℕ
+offset n = n ∷ 0 ∷ 0 ∷ 0 ∷ []
+
+-- A file with datatypes, constants and a constraint, and without comments, functions and KVars. The offsets are below 256.
+abbrev pub fileOf : List ℕ → List ℕ → List ℕ → List ℕ
+fileOf datatypes constants constraint =
+    datatypes ++ constants ++ constraint ++ offset 0 ++ offset 0 ++ offset (length datatypes)
+    ++ offset (length datatypes + length constants) ++ offset (length datatypes + length constants)
+    ++ offset (length datatypes + length constants) ++ bytes "HORN"
+
+-- A file that declares nothing. Its parts are 0 the opening, 1 the blank line, the assertions from 2 on, and the closing.
+abbrev pub constraintOnly : List ℕ → List ℕ
+constraintOnly = fileOf [] []
+
+-- a name: its length and its bytes
+abbrev pub named : String → List ℕ
+named x = length (bytes x) ∷ bytes x
+
+-- the expression Var
+abbrev pub var : String → List ℕ
+var x = 5 ∷ named x
+
+-- an expression as a predicate
+abbrev pub exprPred : List ℕ → List ℕ
+exprPred e = 1 ∷ e
+
+-- the predicate k(x)
+abbrev pub kOfX : List ℕ
+kOfX = 0 ∷ named "k" ++ 1 ∷ 0 ∷ var "x"
+
+-- a predicate as a constraint: a head
+abbrev pub head : List ℕ → List ℕ
+head p = 0 ∷ p
+
+-- the head that is Boolean true
+abbrev pub trueHead : List ℕ
+trueHead = head (exprPred (1 ∷ 1 ∷ []))
+
+-- ForAll x Int with these predicates over k(x)
+abbrev pub kUnder : List (List ℕ) → List ℕ
+kUnder guards = 2 ∷ named "x" ++ 0 ∷ length guards ∷ 0 ∷ join guards ++ head kOfX
+
+-- the datatype N with `vars` 1 and the constructor c, whose field f is of sort Var 0
+abbrev pub datatypeN : List ℕ
+datatypeN = named "N" ++ 1 ∷ 0 ∷ 1 ∷ 0 ∷ named "c" ++ 1 ∷ 0 ∷ named "f" ++ 6 ∷ 0 ∷ 0 ∷ []
+
+-- the constant c of sort Data d with the argument Bool
+abbrev pub constantC : List ℕ
+constantC = named "c" ++ 11 ∷ named "d" ++ 1 ∷ 0 ∷ 1 ∷ []
+
+-- Case S. Its parts are 0 the opening, 1 the constant, 2 the KVar, 3 the blank line, 4 and 5 the assertions, 6 the closing.
+unfoldable pub caseS : List ℕ
+caseS = 1 ∷ 110 ∷ 0 ∷ 2 ∷ 107 ∷ 48 ∷ 1 ∷ 0 ∷ 0 ∷ 2 ∷ 1 ∷ 120 ∷ 0 ∷ 1 ∷ 0 ∷ 1 ∷ 10 ∷ 3 ∷ 5 ∷ 1 ∷ 120 ∷ 0 ∷ 0 ∷ 0 ∷ 0 ∷ 0 ∷ 0 ∷
+    0 ∷ 0 ∷ 0 ∷ 0 ∷ 0 ∷ 0 ∷ 0 ∷ 0 ∷ 0 ∷ 0 ∷ 0 ∷ 1 ∷ 3 ∷ 0 ∷ 0 ∷ 0 ∷ 2 ∷ 107 ∷ 48 ∷ 1 ∷ 0 ∷ 5 ∷ 1 ∷ 120 ∷ 0 ∷ 1 ∷ 1 ∷ 1 ∷
+    2 ∷ 1 ∷ 121 ∷ 0 ∷ 1 ∷ 0 ∷ 0 ∷ 2 ∷ 107 ∷ 48 ∷ 1 ∷ 0 ∷ 5 ∷ 1 ∷ 121 ∷ 0 ∷ 1 ∷ 10 ∷ 3 ∷ 5 ∷ 1 ∷ 121 ∷ 5 ∷ 1 ∷ 110 ∷ 0 ∷ 0 ∷
+    0 ∷ 0 ∷ 0 ∷ 0 ∷ 0 ∷ 0 ∷ 0 ∷ 0 ∷ 0 ∷ 0 ∷ 3 ∷ 0 ∷ 0 ∷ 0 ∷ 3 ∷ 0 ∷ 0 ∷ 0 ∷ 9 ∷ 0 ∷ 0 ∷ 0 ∷ 72 ∷ 79 ∷ 82 ∷ 78 ∷ []
+
+-- its script
+abbrev pub scriptS : List ℕ
+scriptS = lines (
+    "(set-logic HORN)" ∷
+    "" ∷
+    "(declare-const n Int)" ∷
+    "(declare-fun k0 (Int) Bool)" ∷
+    "" ∷
+    "(assert (forall ((x Int)) (=> (>= x 0) (k0 x))))" ∷
+    "(assert (forall ((x Int)(y Int)) (=> (and (>= x 0) (k0 y) (not (>= y n))) false)))" ∷
+    "" ∷
+    "(check-sat)" ∷
+    [])
+
+-- THE TABLE (proofs/Rows.antt: table)
+
+pub record Table : Type 0 where
+  -- S has 108 bytes
+  pub s-length : length caseS ≡ 108
+  -- survey of S: 7 parts, 2 assertions, 214 bytes, 83 of them in the longest part
+  pub s-survey : surveyAnswer caseS ≡ values (7 ∷ 2 ∷ 214 ∷ 83 ∷ [])
+  -- the script of S, in a buffer of 214 bytes
+  pub s-script : scriptCall caseS (zeros 214) ≡ (values (214 ∷ []), scriptS)
+  -- in a buffer of 213 bytes: refused, and the buffer is unchanged
+  pub s-short : scriptCall caseS (zeros 213) ≡ (refused 9, zeros 213)
+  -- S's second assertion
+  pub s-second : partCall caseS 5 (zeros 83)
+      ≡ (values (83 ∷ []), line (bytes "(assert (forall ((x Int)(y Int)) (=> (and (>= x 0) (k0 y) (not (>= y n))) false)))"))
+  -- in a buffer one byte too short
+  pub s-second-short : partCall caseS 5 (zeros 82) ≡ (refused 9, zeros 82)
+  -- S has no part 7
+  pub s-no-part : partCall caseS 7 (zeros 83) ≡ (refused 8, zeros 83)
+  -- empty And as a head
+  pub empty-and : partCall (constraintOnly (head (exprPred (13 ∷ 0 ∷ 0 ∷ [])))) 2 (zeros 31)
+      ≡ (values (31 ∷ []), line (bytes "(assert (=> (not true) false))"))
+  -- empty Or as a head
+  pub empty-or : partCall (constraintOnly (head (exprPred (14 ∷ 0 ∷ 0 ∷ [])))) 2 (zeros 32)
+      ≡ (values (32 ∷ []), line (bytes "(assert (=> (not false) false))"))
+  -- an expression head without guards
+  pub unguarded : partCall (constraintOnly (head (exprPred (var "p")))) 2 (zeros 28)
+      ≡ (values (28 ∷ []), line (bytes "(assert (=> (not p) false))"))
+  -- a KVar head without guards
+  pub guards-0 : partCall (constraintOnly (kUnder [])) 2 (zeros 44)
+      ≡ (values (44 ∷ []), line (bytes "(assert (forall ((x Int)) (=> true (k x))))"))
+  -- a KVar head with one guard
+  pub guards-1 : partCall (constraintOnly (kUnder (exprPred (var "p") ∷ []))) 2 (zeros 41)
+      ≡ (values (41 ∷ []), line (bytes "(assert (forall ((x Int)) (=> p (k x))))"))
+  -- a KVar head with two guards
+  pub guards-2 : partCall (constraintOnly (kUnder (exprPred (var "p") ∷ exprPred (var "q") ∷ []))) 2 (zeros 49)
+      ≡ (values (49 ∷ []), line (bytes "(assert (forall ((x Int)) (=> (and p q) (k x))))"))
+  -- the `par` datatype
+  pub par : partCall (fileOf datatypeN [] trueHead) 1 (zeros 54)
+      ≡ (values (54 ∷ []), line (bytes "(declare-datatypes ((N 1)) ((par (T0) ((c (f T0))))))"))
+  -- a Data sort that no datatype declares
+  pub undeclared : partCall (fileOf [] constantC trueHead) 1 (zeros 22) ≡ (values (22 ∷ []), line (bytes "(declare-const c Int)"))
+  -- a literally true head: 3 parts and no assertion
+  pub true-survey : surveyAnswer (constraintOnly trueHead) ≡ values (3 ∷ 0 ∷ 32 ∷ 18 ∷ [])
+  -- its script
+  pub true-script : scriptCall (constraintOnly trueHead) (zeros 32)
+      ≡ (values (32 ∷ []), lines ("(set-logic HORN)" ∷ "" ∷ "" ∷ "" ∷ "(check-sat)" ∷ []))
+  -- 27 zero bytes
+  pub too-short : surveyAnswer (zeros 27) ≡ refused 1
+  -- 24 zero bytes and the mark
+  pub no-constraint : surveyAnswer (zeros 24 ++ bytes "HORN") ≡ refused 2

@@ -1,0 +1,44 @@
+-- The theorems about the script. Each is proved in proofs/ under the name that stands behind it.
+use Prim.Native.Nat.{ℕ, suc, _+_, _-_, _^_, _<_}
+use mathlib.Core.Path.{_≡_}
+use mathlib.Core.List.{List}
+use lib.ListN.{length, take, getD}
+use Rattle.smtlib.specs.Theorems.{ReadAtCuts}
+use Rattle.task.specs.declared.Fault.the-variants.{Sound}
+use Rattle.task.specs.Ast.{Task}
+use Rattle.task.specs.Decode.{got}
+use Rattle.task.specs.Fault.{taskFault}
+use Rattle.task.specs.Task.{taskOf, declarations, headsOf}
+use Rattle.smt_text.specs.Encoder.{encoder}
+use Rattle.horn_text.specs.Clauses.{clausesOf, placesOf, clausesAt}
+use Rattle.horn_text.specs.Script.{partsOf, scriptOf}
+use Rattle.horn_text.specs.Commands.{assertionsOf, commandsOf, assertionsAmong}
+
+-- The script of a task without fault is read, at every cut, as the commands that the task calls for. (proofs/Readings.antt: script-read)
+abbrev pub ScriptRead : Type 0
+ScriptRead = (t : Task) → taskFault t ≡ Sound → ReadAtCuts (scriptOf t) (commandsOf t)
+
+-- The assertions among the first n commands are those of the first clauses. Before them stand `(set-logic HORN)` and the declarations.
+-- (proofs/Readings.antt: first-assertions)
+abbrev pub FirstAssertions : Type 0
+FirstAssertions =
+    (t : Task) (n : ℕ)
+    → assertionsAmong (take n (commandsOf t)) ≡ assertionsOf (encoder (t .datatypes)) (take (n - suc (declarations t)) (clausesOf t))
+
+-- The clauses belong one to one and in order to the heads that are not literally true, each with the ForAlls that hold it.
+-- (proofs/Places.antt: clauses-placed)
+abbrev pub ClausesPlaced : Type 0
+ClausesPlaced = (t : Task) → clausesOf t ≡ clausesAt (placesOf (t .constraint))
+
+-- There are as many clauses as heads that are not literally true. (proofs/Places.antt: clauses-number)
+abbrev pub ClausesNumber : Type 0
+ClausesNumber = (t : Task) → length (clausesOf t) ≡ headsOf (t .constraint)
+
+-- D declarations and A assertions make D + A + 3 parts. (proofs/Places.antt: parts-number)
+abbrev pub PartsNumber : Type 0
+PartsNumber = (t : Task) → length (partsOf t) ≡ declarations t + headsOf (t .constraint) + 3
+
+-- The script of a file of bytes is shorter than 2^40 bytes. (proofs/Lengths.antt: script-short)
+abbrev pub ScriptShort : Type 0
+ScriptShort =
+    (file : List ℕ) (t : Task) (end : ℕ) → ((i : ℕ) → getD file i 0 < 256) → taskOf file ≡ got t end → length (scriptOf t) < 2 ^ 40
