@@ -82,7 +82,7 @@ module _ (l : ℕ) (s : List ℕ) (at : ℕ) (around : List (List ℕ)) where
   constraint-none e = rw e
 
   module _ (node : ConstraintNode) (z : l ≡ 0 → ⊥) (h : ConstraintAt s at node) where
-    by-node : (n : ConstraintNode) → node ≡ n → decConstraint l s at ≡ constraintOf s (l - 1) (decConstraint (l - 1)) n
+    pub by-node : (n : ConstraintNode) → node ≡ n → decConstraint l s at ≡ constraintOf s (l - 1) (decConstraint (l - 1)) n
     unfolding decConstraint ConstraintAt
     by-node n e = go l z
       where

@@ -145,7 +145,7 @@ const LENGTHS: [u16; 48] = [
 ];
 
 // The smaller of two numbers.
-fn least(a: usize, b: usize) -> usize
+pub fn least(a: usize, b: usize) -> usize
     ensures { λ r. ⌜ r ≡ min a b ⌝ }
 {
     if a < b {
@@ -155,7 +155,7 @@ fn least(a: usize, b: usize) -> usize
 }
 
 // The sum, or the largest number that there is.
-fn sum(a: usize, b: usize) -> usize
+pub fn sum(a: usize, b: usize) -> usize
     ensures { λ r. ⌜ r ≡ min (a + b) most ⌝ }
 {
     if b <= 18446744073709551615 - a {
