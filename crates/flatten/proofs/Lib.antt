@@ -1,2 +1,4 @@
 pub mod Lending
 pub mod Flattening
+pub mod Totals
+pub mod Sections

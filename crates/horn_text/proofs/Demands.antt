@@ -21,10 +21,12 @@ use Rattle.task.proofs.Reading.{bind-got, got-refuse}
 use Rattle.horn_text.specs.Script.{join, partsOf, scriptOf}
 use Rattle.horn_text.specs.Commands.{commandsOf}
 use Rattle.horn_text.specs.Answers.{Answer, refused, surveyOf, surveyAnswer, partOf, partAnswer, partLaid, partBuffer, scriptFitted, scriptAnswer, scriptLaid, scriptBuffer}
-use Rattle.horn_text.specs.Demand.{Demand1, partsWritten, Demand2, Carries, Demand3}
+use Rattle.horn_text.specs.Demand.{Demand1, partsWritten, Demand2, Carries, Promised, Demand3}
 use Rattle.horn_text.proofs.Readings.{script-read, first-assertions}
 use Rattle.horn_text.proofs.Places.{clauses-placed, clauses-number, parts-number}
-use Rattle.horn_text.proofs.Lengths.{cond-got, script-short}
+use Rattle.horn_text.proofs.Lines.{parts-lined}
+use Rattle.horn_text.proofs.Opened.{cond-got}
+use Rattle.horn_text.proofs.Lengths.{script-short}
 use Rattle.horn_text.proofs.Refusals.{refusals}
 
 -- the i-th part of the script
@@ -124,6 +126,7 @@ demand2 file t end b e = record {
   reported = rw (e, clauses-number t);
   parts = parts-number t;
   short = script-short file t end b e;
+  lined = parts-lined t;
   part-length = λ i room h g. rw (e, lt-ltb _ _ h, le-leb _ _ g);
   part-text = part-there file t end e;
   part-rest = λ i buf h g. rw (part-laid file t end e i buf h g) (drop-append-seam (nth t i) _);
@@ -172,4 +175,5 @@ carries t rest r =
     }
 
 pub demand3 : Demand3
-demand3 file t end buf e h = rw (script-laid file t end e buf h) (carries t _ (script-read t (task-sound file t end e)))
+unfolding Promised
+demand3 file buf t end e h = rw (script-laid file t end e buf h) (carries t _ (script-read t (task-sound file t end e)))

@@ -1,30 +1,28 @@
 -- The script of a file of bytes is shorter than 2^40 bytes: `script-short`. An item takes at most 500000 bytes of text for each byte it is
 -- decoded from. There are no more assertions than bytes, and an assertion is at most 1000000 bytes long.
 use Prim.Native.Nat.{ℕ, zero, suc, _+_, _-_, _*_, _^_, _≤_, _<_}
-use mathlib.Core.Path.{_≡_, refl, sym, _∙_}
+use mathlib.Core.Path.{_≡_, refl}
 use mathlib.Core.Bool.{Bool, true, false, cond}
-use mathlib.Core.Logic.{⊎-elim}
 use mathlib.Core.List.{List, [], _∷_, _++_, map, map-append}
 use native.Mathlib.Omega.{arith}
-use lib.Dec.{leb, eqb}
+use lib.Dec.{leb}
 use lib.ListN.{length, take, getD, length-append, length-take}
-use borrow.Author.Tests.{le-leb, lt-leb}
 use Rattle.smtlib.specs.Lexicon.{bytes}
 use Rattle.smtlib.specs.Compose.{line}
-use Rattle.task.specs.Ast.{Binder, Pred, Constraint, Constraints, Task}
-use Rattle.task.specs.Decode.{Res, got, refuse, bind, Decoder, items, decConstraint, comment, datatype, constant, function, kvar, deepest, section}
-use Rattle.task.specs.Fault.{refusalOf, taskFault}
-use Rattle.task.specs.Task.{literallyTrue, predHeads, headsOf, headsIn, bound, framed, within, decoded, judged, taskOf}
+use Rattle.task.specs.Ast.{Binder, Pred, Constraint, Constraints}
+use Rattle.task.specs.Decode.{got, bind, Decoder, items, decConstraint, comment, datatype, deepest, section}
+use Rattle.task.specs.Task.{literallyTrue, predHeads, headsOf, headsIn, bound, within}
 use Rattle.task.specs.Covers.{CoversSome}
-use Rattle.task.proofs.Reading.{bind-got, got-refuse, le-or-lt}
+use Rattle.task.proofs.Reading.{bind-got}
 use Rattle.task.proofs.Pieces.{each-covers}
 use Rattle.smt_text.specs.Encoder.{Encoder, encoder}
 use Rattle.smt_text.specs.Text.{write-name, write-binder, write-binders, write-unary, write-expr, write-pred, write-datatype-decl}
 use Rattle.smt_text.specs.Theorems.{Bounded, none}
 use Rattle.smt_text.proofs.Bounds.{Costs, refused, free, _⟫_, names, texts, rows, end, _∣_, codes, wide, wides, spaced-length, sorts, preds, datatypes, bounds}
 use Rattle.horn_text.specs.Clauses.{HornClause, kept, flatten-constraint, flatten-constraints}
-use Rattle.horn_text.specs.Script.{join, write-preds, write-guard-conjunction, write-negation, write-implication, write-forall, write-assert, write-asserts, write-comment, opening, closing, scriptOf}
+use Rattle.horn_text.specs.Script.{join, write-preds, write-guard-conjunction, write-negation, write-implication, write-forall, write-assert, write-asserts, write-comment, opening, closing}
 use Rattle.horn_text.specs.Theorems.{ScriptShort}
+use Rattle.horn_text.proofs.Opened.{opened}
 
 -- TEXTS IN A ROW
 
@@ -219,11 +217,6 @@ taken (suc n) [] h i = h i
 taken (suc n) (x ∷ s) h zero = h 0
 taken (suc n) (x ∷ s) h (suc i) = taken n s (λ j. h (suc j)) i
 
--- a test that was passed
-pub cond-got : {A : Type 0} (t : Bool) (x : Res A) (k : ℕ) {a : A} {p : ℕ} → cond t x (refuse k) ≡ got a p → x ≡ got a p
-cond-got true x k e = e
-cond-got false x k e = got-refuse (sym e)
-
 module _ (file : List ℕ) (b : (i : ℕ) → getD file i 0 < 256) (l : length file ≤ 60000) where
   -- a section of a file of at most 60000 bytes
   section-short : {A : Type 0} {text : A → List ℕ} {d : Decoder A} → CoversSome d → Paid text d
@@ -248,48 +241,15 @@ module _ (file : List ℕ) (b : (i : ℕ) → getD file i 0 < 256) (l : length f
       let h = clauses-short enc c [] [] (omega arith) in
       record { short = omega (arith, y .room, y .end) }
 
-  -- a file that decodes
-  decoded-short : (t : Task) (q : ℕ) → decoded file ≡ got t q → length (scriptOf t) < 2 ^ 40
-  unfolding decoded
-  decoded-short t q e =
-      let x0 = bind-got (within file 0 (section comment)) _ t q e in
-      let x1 = bind-got (within file 1 (section datatype)) _ t q (x0 .then) in
-      let x2 = bind-got (within file 2 (section constant)) _ t q (x1 .then) in
-      let x3 = bind-got (within file 3 (section function)) _ t q (x2 .then) in
-      let x4 = bind-got (within file 4 (section kvar)) _ t q (x3 .then) in
-      let x5 = bind-got (within file 5 (decConstraint deepest)) _ t q (x4 .then) in
-      let whole : Task = record {
-        comments = x0 .value;
-        datatypes = x1 .value;
-        constants = x2 .value;
-        functions = x3 .value;
-        kvars = x4 .value;
-        constraint = x5 .value;
-      } in
-      let g = cond-got (eqb (x5 .next) (bound file 6)) (got whole (x5 .next)) 2 (x5 .then) in
-      let z : whole ≡ t = cc in
-      let enc = encoder (x1 .value) in
-      rw (← z) (parts-short (x0 .value)
-      (section-short (each-covers .comments) comments-paid 0 (x0 .first))
-      (section-short (each-covers .datatypes) (datatypes-paid enc) 1 (x1 .first))
-      (section-short (each-covers .constants) (paid (bounds enc .constants)) 2 (x2 .first))
-      (section-short (each-covers .functions) (paid (bounds enc .functions)) 3 (x3 .first))
-      (section-short (each-covers .kvars) (paid (bounds enc .kvars)) 4 (x4 .first))
-      (constraint-short enc (x5 .value) (x5 .next) (x5 .first)))
-
--- a longer file is refused
-too-long : (file : List ℕ) → 60000 < length file → taskOf file ≡ refuse 1
-unfolding taskOf framed
-too-long file h = rw (le-leb 28 (length file) (omega arith), lt-leb (length file) 60000 h)
-
 pub script-short : ScriptShort
-unfolding taskOf judged
 script-short file t q b e =
-    ⊎-elim
-    (λ l.
-    let x = bind-got (decoded file) judged t q (cond-got (framed file) (bind (decoded file) judged) 1 e) in
-    let r = refusalOf (taskFault (x .value)) in
-    let z = cond-got (eqb r 0) (got (x .value) (x .next)) r (x .then) in
-    decoded-short file b l t q (x .first ∙ z))
-    (λ h. got-refuse (sym e ∙ too-long file h))
-    (le-or-lt (length file) 60000)
+    let o = opened file t q e in
+    let enc = encoder (t .datatypes) in
+    let l = o .most in
+    parts-short (t .comments)
+    (section-short file b l (each-covers .comments) comments-paid 0 (o .comments))
+    (section-short file b l (each-covers .datatypes) (datatypes-paid enc) 1 (o .datatypes))
+    (section-short file b l (each-covers .constants) (paid (bounds enc .constants)) 2 (o .constants))
+    (section-short file b l (each-covers .functions) (paid (bounds enc .functions)) 3 (o .functions))
+    (section-short file b l (each-covers .kvars) (paid (bounds enc .kvars)) 4 (o .kvars))
+    (constraint-short file b l enc (t .constraint) (bound file 6) (o .constraint))

@@ -1,5 +1,7 @@
 pub mod Readings
 pub mod Places
+pub mod Lines
+pub mod Opened
 pub mod Lengths
 pub mod Refusals
 pub mod Demands

@@ -13,6 +13,7 @@ use Rattle.smt_text.specs.Encoder.{encoder}
 use Rattle.horn_text.specs.Clauses.{clausesOf, placesOf, clausesAt}
 use Rattle.horn_text.specs.Script.{join, partsOf, scriptOf, longest}
 use Rattle.horn_text.specs.Commands.{assertionsOf, commandsOf, assertionsAmong}
+use Rattle.horn_text.specs.Theorems.{Lined}
 use Rattle.horn_text.specs.Answers.{values, refused, surveyAnswer, partAnswer, partBuffer, scriptAnswer, scriptBuffer}
 
 -- every entry is a byte
@@ -40,6 +41,8 @@ pub record Script (file : List ℕ) (t : Task) : Type 0 where
   pub reported : surveyAnswer file ≡ values (length (partsOf t) ∷ headsOf (t .constraint) ∷ length (scriptOf t) ∷ longest (partsOf t) ∷ [])
   pub parts : length (partsOf t) ≡ declarations t + headsOf (t .constraint) + 3
   pub short : length (scriptOf t) < 2 ^ 40
+  -- every part ends in a line feed
+  pub lined : (i : ℕ) → i < length (partsOf t) → Lined (getD (partsOf t) i [])
   -- part i is the i-th, at the start of any buffer with room for it, and the bytes behind it are unchanged
   pub part-length : (i room : ℕ) → i < length (partsOf t) → length (getD (partsOf t) i []) ≤ room
       → partAnswer file i room ≡ values (length (getD (partsOf t) i []) ∷ [])
@@ -77,8 +80,11 @@ pub record Carries (t : Task) (buf : List ℕ) : Type 0 where
   -- that hold its head, the outermost first, and exactly their predicates that are not literally true
   pub clauses : clausesOf t ≡ clausesAt (placesOf (t .constraint))
 
--- of every file that is accepted and every buffer with room for the script, as the call leaves it
+-- what `script` promises of the buffer that it leaves: for every file that is accepted and every buffer with room for the script
+unfoldable pub Promised : List ℕ → List ℕ → List ℕ → Type 0
+Promised file before after =
+    (t : Task) (end : ℕ) → taskOf file ≡ got t end → length (scriptOf t) ≤ length before → Carries t after
+
+-- the call leaves `scriptBuffer`
 abbrev pub Demand3 : Type 0
-Demand3 =
-    (file : List ℕ) (t : Task) (end : ℕ) (buf : List ℕ) → taskOf file ≡ got t end → length (scriptOf t) ≤ length buf
-    → Carries t (scriptBuffer file buf)
+Demand3 = (file buf : List ℕ) → Promised file buf (scriptBuffer file buf)

@@ -1,8 +1,9 @@
 -- The theorems about the script. Each is proved in proofs/ under the name that stands behind it.
-use Prim.Native.Nat.{ℕ, suc, _+_, _-_, _^_, _<_}
+use Prim.Native.Nat.{ℕ, suc, _+_, _-_, _^_, _≤_, _<_}
 use mathlib.Core.Path.{_≡_}
-use mathlib.Core.List.{List}
+use mathlib.Core.List.{List, []}
 use lib.ListN.{length, take, getD}
+use Rattle.smtlib.specs.Compose.{line}
 use Rattle.smtlib.specs.Theorems.{ReadAtCuts}
 use Rattle.task.specs.declared.Fault.the-variants.{Sound}
 use Rattle.task.specs.Ast.{Task}
@@ -37,6 +38,19 @@ ClausesNumber = (t : Task) → length (clausesOf t) ≡ headsOf (t .constraint)
 -- D declarations and A assertions make D + A + 3 parts. (proofs/Places.antt: parts-number)
 abbrev pub PartsNumber : Type 0
 PartsNumber = (t : Task) → length (partsOf t) ≡ declarations t + headsOf (t .constraint) + 3
+
+-- a text that ends in a line feed
+pub record Lined (w : List ℕ) : Type 0 where
+  pub before : List ℕ
+  pub is : w ≡ line before
+
+-- Every part ends in a line feed. (proofs/Lines.antt: parts-lined)
+abbrev pub PartsLined : Type 0
+PartsLined = (t : Task) (i : ℕ) → i < length (partsOf t) → Lined (getD (partsOf t) i [])
+
+-- There are no more parts than bytes. (proofs/Lines.antt: parts-few)
+abbrev pub PartsFew : Type 0
+PartsFew = (t : Task) → length (partsOf t) ≤ length (scriptOf t)
 
 -- The script of a file of bytes is shorter than 2^40 bytes. (proofs/Lengths.antt: script-short)
 abbrev pub ScriptShort : Type 0

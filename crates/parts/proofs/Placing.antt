@@ -1,0 +1,180 @@
+-- What the steps of putting parts add up to: fixed texts, the opening, the items of a section.
+use mathlib.Core.Path.{_≡_, refl, sym, ap, _∙_, subst}
+use mathlib.Core.Bool.{Bool, true, false, cond}
+use mathlib.Core.List.{List, [], _∷_, _++_, map, nil≢cons}
+use Prim.Native.Nat.{ℕ, zero, suc, _+_, _-_, _<_, _≤_, min}
+use native.Mathlib.Omega.{arith}
+use lib.Dec.{leb}
+use lib.ListN.{length, take, drop}
+use borrow.Author.Tests.{le-leb, lt-leb}
+use Rattle.smtlib.specs.Lexicon.{bytes}
+use Rattle.task.specs.declared.Fault.{Fault}
+use Rattle.task.specs.declared.Span.{Span}
+use Rattle.task.specs.declared.SpanRead.{SpanRead}
+use Rattle.task.specs.declared.SpanRead.the-variants as span-is
+use Rattle.task.specs.Covers.{CoversSome}
+use Rattle.task.specs.Decode.{Res, got, refuse, bind, comment, datatype, constant, function, kvar, items, section}
+use Rattle.task.specs.Fault.{commentFault, datatypeFault, binderFault, functionFault, kvarFault}
+use Rattle.task.specs.Node.{bytesOf, spanOf}
+use Rattle.task.proofs.Reading.{bind-got, got-refuse}
+use Rattle.task.proofs.Pieces.{each-covers}
+use Rattle.task_check.specs.declared.Walked.{Walked}
+use Rattle.task_check.specs.declared.Walked.the-variants as walked-is
+use Rattle.task_check.specs.Walk.{walked}
+use Rattle.task_check.proofs.Rows.{refused-is}
+use Rattle.item_check.specs.declared.Section.{Section}
+use Rattle.item_check.specs.declared.Section.the-variants.{Comments, Datatypes, Constants, Functions, KVars}
+use Rattle.item_check.specs.Items.{itemWalk}
+use Rattle.smt_text.specs.Encoder.{Encoder}
+use Rattle.smt_text.specs.Text.{write-datatype-decl, write-const-decl, write-fun-def, write-kvar-decl}
+use Rattle.horn_text.specs.Script.{join, write-comment, opening}
+use Rattle.output.specs.Emit.{Output, output, most, emit, emits, Runs, Sends}
+use Rattle.output.proofs.Sent.{emits-append}
+use Rattle.output.proofs.Sending.{sends-refused, sends-end, sends-map, Steps}
+use Rattle.flatten.specs.declared.Range.{Range}
+use Rattle.flatten.specs.declared.Progress.{Progress}
+use Rattle.flatten.specs.Parts.{Writing, writing, has, placed, passed, put, puts, Puts}
+use Rattle.flatten.proofs.Lending.{put-in, put-out, puts-append}
+use Rattle.flatten.proofs.Sections.{covers-map}
+use Rattle.parts.specs.Whole.{itemText, itself, alone, commentLines, PutsAll}
+
+-- A PART
+
+module _ {A : Type 0} (text : A → List ℕ) (r : Range) (p p' : Progress) (xs : List ℕ) (d : Res A) where
+  -- in the range: its text was sent to what was lent
+  pub part-in : (ys : List ℕ) (start z n at : ℕ) → has r (p .seen) ≡ true → start ≡ min (p .len) (length xs) → z ≡ 0 → length xs ≤ most
+      → Sends text d (output (take (length xs - start) (drop start xs)) z) (output ys n) at → p' ≡ placed p n
+      → Puts (λ a. text a ∷ []) r d (writing p xs) (writing p' (take start xs ++ (ys ++ drop (length xs - start) (drop start xs)))) at
+  unfolding Puts Sends puts
+  part-in ys start z n at h e e0 m w e' a q g =
+      let v = w a q g in
+      (v .0, put-in r p p' xs (text a) ys start z n h e e0 m (v .1) e')
+
+  -- not in the range
+  pub part-out : has r (p .seen) ≡ false → p' ≡ passed p → PutsAll (λ a. text a ∷ []) r d (writing p xs) (writing p' xs)
+  unfolding PutsAll puts
+  part-out h e a q g = put-out r p p' xs (text a) h e
+
+-- where it ends is left out
+pub all-of : {A : Type 0} (parts : A → List (List ℕ)) (r : Range) (d : Res A) (w w' : Writing) (at : ℕ) → Puts parts r d w w' at → PutsAll parts r d w w'
+unfolding Puts PutsAll
+all-of parts r d w w' at u a q g = u a q g .1
+
+-- COMMENTS
+
+module _ (s : List ℕ) (at : ℕ) (o : Output) (v : SpanRead) (e : comment s at ≡ spanOf s v) where
+  pub comment-refused : (o' : Output) (r : ℕ) → v ≡ span-is.Refused → Sends write-comment (comment s at) o o' r
+  comment-refused o' r e' = rw (e ∙ ap (spanOf s) e') (sends-refused write-comment o o' r 2)
+
+  pub comment-sent : (x : Span) (p : ℕ) (w : List ℕ) (o1 o2 o3 : Output) → v ≡ span-is.At x p → o1 ≡ emits o (bytes ";; ") → w ≡ bytesOf s x → o2 ≡ emits o1 w
+      → o3 ≡ emit o2 10 → Sends write-comment (comment s at) o o3 p
+  unfolding emits
+  comment-sent x p w o1 o2 o3 e' e1 ew e2 e3 =
+      rw (e ∙ ap (spanOf s) e') (sends-end write-comment o o3 p (bytesOf s x) p refl (rw (e3, e2, e1, ew) (simp emits-append)))
+
+pub comment-steps : Steps [] _∷_ (λ (o : Output) (c : List ℕ). emits o (write-comment c)) (λ o cs. emits o (commentLines cs))
+unfolding emits commentLines
+comment-steps = record { none = λ o. refl; step = λ o c cs. emits-append o (write-comment c) (join (map write-comment cs)) }
+
+-- a section that begins behind its end has no items
+no-items : (n : ℕ) (s : List ℕ) (at : ℕ) → length s ≤ at → items n comment s at ≡ got [] at
+unfolding items
+no-items zero s at h = refl
+no-items (suc n) s at h = rw (le-leb (length s) at h)
+
+-- one that begins before it has some
+some-items : (n : ℕ) (s : List ℕ) (at : ℕ) (cs : List (List ℕ)) (q : ℕ) → at < length s → 0 < n → items n comment s at ≡ got cs q → cs ≡ [] → ⊥
+unfolding items
+some-items zero s at cs q h z e f = absurd (omega arith)
+some-items (suc n) s at cs q h z e f =
+    let g : bind (comment s at) (λ a p. bind (items n comment s p) (λ b r. got (a ∷ b) r)) ≡ got cs q = rw (lt-leb (length s) at h) at e in
+    let i = bind-got (comment s at) (λ a p. bind (items n comment s p) (λ b r. got (a ∷ b) r)) cs q g in
+    let j = bind-got (items n comment s (i .next)) (λ b r. got (i .value ∷ b) r) cs q (i .then) in
+    let y : i .value ∷ j .value ≡ [] = cc in
+    nil≢cons (sym y)
+
+-- with comments there is a blank line behind them
+opening-some : (cs : List (List ℕ)) → (cs ≡ [] → ⊥) → opening cs ≡ bytes "(set-logic HORN)\n\n" ++ (commentLines cs ++ bytes "\n")
+unfolding opening commentLines
+opening-some [] z = absurd (z refl)
+opening-some (c ∷ cs) z = refl
+
+module _ (s : List ℕ) (at : ℕ) (o o1 : Output) (e1 : o1 ≡ emits o (bytes "(set-logic HORN)\n\n")) where
+  pub opening-bare : length s ≤ at → Sends opening (section comment s at) o o1 at
+  unfolding opening
+  opening-bare h = rw (no-items (length s) s at h) (sends-end opening o o1 at [] at refl e1)
+
+  pub opening-told : (o2 o3 : Output) (q : ℕ) → at < length s → Sends commentLines (section comment s at) o1 o2 q → o3 ≡ emit o2 10
+      → Sends opening (section comment s at) o o3 q
+  unfolding Sends emits
+  opening-told o2 o3 q h w e3 cs t g =
+      let v = w cs t g in
+      let y = some-items (length s) s at cs t h (omega arith) g in
+      (v .0, rw (e3, v .1, e1, opening-some cs y) (simp emits-append))
+
+-- ITEMS
+
+module _ (enc : Encoder) where
+  pub item-covers : (i : Section) → CoversSome (itemText enc i)
+  unfolding itemText
+  item-covers Comments = covers-map comment write-comment (each-covers .comments)
+  item-covers Datatypes = covers-map datatype (write-datatype-decl enc) (each-covers .datatypes)
+  item-covers Constants = covers-map constant (write-const-decl enc) (each-covers .constants)
+  item-covers Functions = covers-map function (write-fun-def enc) (each-covers .functions)
+  item-covers KVars = covers-map kvar (write-kvar-decl enc) (each-covers .kvars)
+
+  -- an item by the section that it stands in
+  pub item-is : (i j : Section) (s : List ℕ) (at : ℕ) (o o' : Output) (r : ℕ) → i ≡ j → Sends itself (itemText enc j s at) o o' r → Sends itself (itemText enc i s at) o o' r
+  item-is i j s at o o' r e w = rw e w
+
+-- a piece of which the text is kept
+pub text-of : {A : Type 0} (text : A → List ℕ) (x : Res A) (o o' : Output) (r : ℕ) → Sends text x o o' r → Sends itself (bind x (λ a p. got (text a) p)) o o' r
+text-of text x o o' r w = sends-map itself text x o o' r w
+
+-- where the walker ended there the piece ends
+ends : {A : Type 0} (fault : A → Fault) (text : A → List ℕ) (x : Res A) (v : Walked) (q : ℕ) (f : Fault) (t : List ℕ) (z : ℕ) → v ≡ walked fault x → v ≡ walked-is.Next q f
+    → bind x (λ a p. got (text a) p) ≡ got t z → q ≡ z
+ends fault text x v q f t z e e' g =
+    let i = bind-got x (λ a p. got (text a) p) t z g in
+    let y : walked-is.Next q f ≡ walked-is.Next (i .next) (fault (i .value)) = sym e' ∙ e ∙ ap (walked fault) (i .first) in
+    let k : i .next ≡ z = cc in
+    cc
+
+-- where it refused there is none
+none-there : {A B : Type 0} (fault : A → Fault) (text : A → List ℕ) (x : Res A) (v : Walked) (k : ℕ) (t : List ℕ) (z : ℕ) → v ≡ walked fault x → v ≡ walked-is.Refused k
+    → bind x (λ a p. got (text a) p) ≡ got t z → B
+none-there fault text x v k t z e e' g =
+    let i = bind-got x (λ a p. got (text a) p) t z g in
+    got-refuse (sym (i .first) ∙ refused-is fault x k (sym e' ∙ e))
+
+module _ (enc : Encoder) (s : List ℕ) (at : ℕ) (v : Walked) (t : List ℕ) (z : ℕ) where
+  item-ends : (i : Section) (q : ℕ) (f : Fault) → v ≡ itemWalk i s at → v ≡ walked-is.Next q f → itemText enc i s at ≡ got t z → q ≡ z
+  unfolding itemWalk itemText
+  item-ends Comments q f e e' g = ends commentFault write-comment (comment s at) v q f t z e e' g
+  item-ends Datatypes q f e e' g = ends datatypeFault (write-datatype-decl enc) (datatype s at) v q f t z e e' g
+  item-ends Constants q f e e' g = ends binderFault (write-const-decl enc) (constant s at) v q f t z e e' g
+  item-ends Functions q f e e' g = ends functionFault (write-fun-def enc) (function s at) v q f t z e e' g
+  item-ends KVars q f e e' g = ends kvarFault (write-kvar-decl enc) (kvar s at) v q f t z e e' g
+
+  no-item : {B : Type 0} (i : Section) (k : ℕ) → v ≡ itemWalk i s at → v ≡ walked-is.Refused k → itemText enc i s at ≡ got t z → B
+  unfolding itemWalk itemText
+  no-item Comments k e e' g = none-there commentFault write-comment (comment s at) v k t z e e' g
+  no-item Datatypes k e e' g = none-there datatypeFault (write-datatype-decl enc) (datatype s at) v k t z e e' g
+  no-item Constants k e e' g = none-there binderFault (write-const-decl enc) (constant s at) v k t z e e' g
+  no-item Functions k e e' g = none-there functionFault (write-fun-def enc) (function s at) v k t z e e' g
+  no-item KVars k e e' g = none-there kvarFault (write-kvar-decl enc) (kvar s at) v k t z e e' g
+
+module _ (enc : Encoder) (i : Section) (s : List ℕ) (at : ℕ) (r : Range) (v : Walked) (e : v ≡ itemWalk i s at) where
+  pub item-out : (p p' : Progress) (xs : List ℕ) (q : ℕ) (f : Fault) → has r (p .seen) ≡ false → v ≡ walked-is.Next q f → p' ≡ passed p
+      → Puts alone r (itemText enc i s at) (writing p xs) (writing p' xs) q
+  unfolding Puts puts
+  item-out p p' xs q f h e' u t z g = (item-ends enc s at v t z i q f e e' g, put-out r p p' xs t h u)
+
+  pub item-refused : (w w' : Writing) (q k : ℕ) → v ≡ walked-is.Refused k → Puts alone r (itemText enc i s at) w w' q
+  unfolding Puts
+  item-refused w w' q k e' t z g = no-item enc s at v t z i k e e' g
+
+-- the items of a section one by one
+pub section-steps : (r : Range) → Steps [] _∷_ (λ (w : Writing) (t : List ℕ). puts r w (t ∷ [])) (λ w ts. puts r w ts)
+unfolding puts
+section-steps r = record { none = λ w. refl; step = λ w t ts. refl }

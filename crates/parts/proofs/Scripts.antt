@@ -1,0 +1,144 @@
+-- What the parts of a file add up to: its declarations, its assertions, its script.
+use mathlib.Core.Path.{_≡_, refl, sym, ap, _∙_, subst}
+use mathlib.Core.List.{List, [], _∷_, _++_, map}
+use Prim.Native.Nat.{ℕ, _≤_, min}
+use native.Mathlib.Omega.{arith}
+use lib.ListN.{take}
+use lib.Seq.{take-take}
+use Rattle.smtlib.specs.Lexicon.{bytes}
+use Rattle.task.specs.Ast.{Constraint, Task}
+use Rattle.task.specs.Decode.{Res, got, bind, Decoder, give, _▹_, comment, datatype, constant, function, kvar, section, decConstraint, deepest}
+use Rattle.task.specs.Task.{bound, taskOf}
+use Rattle.task.proofs.Reading.{bind-got}
+use Rattle.item_check.specs.declared.Section.the-variants.{Datatypes, Constants, Functions, KVars}
+use Rattle.inspect.specs.declared.Bounds.{Bounds}
+use Rattle.inspect.specs.Inspect.{boundsOf}
+use Rattle.smt_text.specs.Encoder.{Encoder, encoder}
+use Rattle.smt_text.specs.Text.{write-datatype-decl, write-const-decl, write-fun-def, write-kvar-decl}
+use Rattle.smt_sort.specs.declared.Datatypes as types
+use Rattle.smt_sort.specs.Section.{encoderIn}
+use Rattle.smt_sort.proofs.Sorts.{encoder-is}
+use Rattle.horn_text.specs.Clauses.{clausesOf}
+use Rattle.horn_text.specs.Script.{write-asserts, opening, declarationParts, closing, partsOf}
+use Rattle.horn_text.proofs.Opened.{Opened, opened}
+use Rattle.assertion.specs.Under.{onPath}
+use Rattle.flatten.specs.declared.Range.{Range}
+use Rattle.flatten.specs.declared.Progress.{Progress}
+use Rattle.flatten.specs.Parts.{Writing, writing, put, puts, PutsUnder, Puts, clauseParts}
+use Rattle.flatten.proofs.Lending.{puts-append}
+use Rattle.flatten.proofs.Sections.{section-map}
+use Rattle.parts.specs.Whole.{itemText, openingPart, each, PutsAll, typesOf, sectionTexts, declarationTexts, constraintIn, assertionParts, fresh, PutsScript, Measured}
+
+-- DECLARATIONS
+
+pub declarations-put : (file : List ℕ) (b : Bounds) (r : Range) (w w1 w2 w3 w4 : Writing)
+    → PutsAll each r (sectionTexts file b Datatypes (b .datatypes) (b .constants)) w w1
+    → PutsAll each r (sectionTexts file b Constants (b .constants) (b .functions)) w1 w2
+    → PutsAll each r (sectionTexts file b Functions (b .functions) (b .kvars)) w2 w3
+    → PutsAll each r (sectionTexts file b KVars (b .kvars) (b .constraint)) w3 w4 → PutsAll each r (declarationTexts file b) w w4
+unfolding PutsAll declarationTexts
+declarations-put file b r w w1 w2 w3 w4 u1 u2 u3 u4 us q e =
+    let i = bind-got (sectionTexts file b Datatypes (b .datatypes) (b .constants)) _ us q e in
+    let j = bind-got (sectionTexts file b Constants (b .constants) (b .functions)) _ us q (i .then) in
+    let k = bind-got (sectionTexts file b Functions (b .functions) (b .kvars)) _ us q (j .then) in
+    let l = bind-got (sectionTexts file b KVars (b .kvars) (b .constraint)) _ us q (k .then) in
+    let all : i .value ++ (j .value ++ (k .value ++ l .value)) ≡ us = cc in
+    u4 (l .value) (l .next) (l .first)
+    ∙ ap (λ (v : Writing). puts r v (l .value)) (u3 (k .value) (k .next) (k .first))
+    ∙ ap (λ (v : Writing). puts r (puts r v (k .value)) (l .value)) (u2 (j .value) (j .next) (j .first))
+    ∙ ap (λ (v : Writing). puts r (puts r (puts r v (j .value)) (k .value)) (l .value)) (u1 (i .value) (i .next) (i .first))
+    ∙ sym (chain r w (i .value) (j .value) (k .value) (l .value)) ∙ ap (puts r w) all
+  where
+    chain : (r : Range) (w : Writing) (a b c d : List (List ℕ)) → puts r w (a ++ (b ++ (c ++ d))) ≡ puts r (puts r (puts r (puts r w a) b) c) d
+    chain r w a b c d =
+        puts-append r w a (b ++ (c ++ d)) ∙ puts-append r (puts r w a) b (c ++ d) ∙ puts-append r (puts r (puts r w a) b) c d
+
+-- ASSERTIONS
+
+pub assertions-put : (file os : List ℕ) (b : Bounds) (r : Range) (w w' : Writing) (q : ℕ) → os ≡ []
+    → PutsUnder (clauseParts (encoderIn (take (b .end) file) (typesOf b))) r (onPath (take (b .end) file) os) (constraintIn file b) w w' q
+    → PutsAll (assertionParts file b) r (constraintIn file b) w w'
+unfolding PutsAll PutsUnder Puts assertionParts onPath
+assertions-put file os b r w w' q e u c p g = u [] 0 (rw e) c p g .1
+
+-- THE SCRIPT
+
+-- the texts of a section that decodes
+texts-of : {A : Type 0} (d : Decoder A) (f : A → List ℕ) (s : List ℕ) (at : ℕ) (xs : List A) (q : ℕ) → section d s at ≡ got xs q
+    → section (d ▹ λ a. give (f a)) s at ≡ got (map f xs) q
+texts-of d f s at xs q e = section-map d f s at ∙ ap (λ x. bind x (λ ys p. got (map f ys) p)) e
+
+module _ (file : List ℕ) (t : Task) (o : Opened file t) where
+  -- the datatypes are the same in every section behind them
+  same-encoder : (e : ℕ) → bound file 2 ≤ e → encoderIn (take e file) (typesOf (boundsOf file)) ≡ encoder (t .datatypes)
+  same-encoder e h = encoder-is (take e file) (typesOf (boundsOf file)) (t .datatypes) (o .datatypes-end) (rw (take-take (bound file 2) e file h) (o .datatypes))
+
+  declared : declarationTexts file (boundsOf file) ≡ got (declarationParts (encoder (t .datatypes)) t) (o .kvars-end)
+  unfolding declarationTexts itemText
+  declared =
+      let r2 = o .rise2 in
+      let r3 = o .rise3 in
+      let r4 = o .rise4 in
+      let enc = encoder (t .datatypes) in
+      rw (
+        same-encoder (bound file 2) (omega arith),
+        same-encoder (bound file 3) (omega arith),
+        same-encoder (bound file 4) (omega arith),
+        same-encoder (bound file 5) (omega arith),
+        texts-of datatype (write-datatype-decl enc) (take (bound file 2) file) (bound file 1) (t .datatypes) (o .datatypes-end) (o .datatypes),
+        texts-of constant (write-const-decl enc) (take (bound file 3) file) (bound file 2) (t .constants) (o .constants-end) (o .constants),
+        texts-of function (write-fun-def enc) (take (bound file 4) file) (bound file 3) (t .functions) (o .functions-end) (o .functions),
+        texts-of kvar (write-kvar-decl enc) (take (bound file 5) file) (bound file 4) (t .kvars) (o .kvars-end) (o .kvars),
+      )
+
+  asserted : assertionParts file (boundsOf file) (t .constraint) ≡ write-asserts (encoder (t .datatypes)) (clausesOf t)
+  unfolding assertionParts clauseParts
+  asserted =
+      let r2 = o .rise2 in
+      let r3 = o .rise3 in
+      let r4 = o .rise4 in
+      let r5 = o .rise5 in
+      ap (λ (enc : Encoder). write-asserts enc (clausesOf t)) (same-encoder (bound file 6) (omega arith))
+
+  module _ (r : Range) (w0 w1 w2 w3 w4 w5 : Writing) where
+    put-all : PutsAll openingPart r (section comment (take (bound file 1) file) (bound file 0)) w0 w1 → PutsAll each r (declarationTexts file (boundsOf file)) w1 w2
+        → w3 ≡ put r w2 (bytes "\n") → PutsAll (assertionParts file (boundsOf file)) r (constraintIn file (boundsOf file)) w3 w4 → w5 ≡ put r w4 (bytes "\n(check-sat)\n")
+        → w5 ≡ puts r w0 (partsOf t)
+    unfolding PutsAll closing puts
+    put-all u1 u2 e3 u4 e5 =
+        let enc = encoder (t .datatypes) in
+        let ds = declarationParts enc t in
+        let cs = write-asserts enc (clausesOf t) in
+        let e1 : w1 ≡ put r w0 (opening (t .comments)) = u1 (t .comments) (o .comments-end) (o .comments) in
+        let e2 : w2 ≡ puts r w1 ds = u2 ds (o .kvars-end) declared in
+        let e4 : w4 ≡ puts r w3 cs = u4 (t .constraint) (bound file 6) (o .constraint) ∙ ap (puts r w3) asserted in
+        rw (e5, e4, e3, e2, e1)
+        (sym (puts-append r (put r w0 (opening (t .comments))) ds (bytes "\n" ∷ (cs ++ closing ∷ []))
+        ∙ puts-append r (put r (puts r (put r w0 (opening (t .comments))) ds) (bytes "\n")) cs (closing ∷ [])))
+
+script-put : (file : List ℕ) (b : Bounds) (r : Range) (w0 w1 w2 w3 w4 w5 : Writing) → PutsAll openingPart r (section comment (take (b .datatypes) file) (b .comments)) w0 w1
+    → PutsAll each r (declarationTexts file b) w1 w2 → w3 ≡ put r w2 (bytes "\n") → PutsAll (assertionParts file b) r (constraintIn file b) w3 w4 → w5 ≡ put r w4 (bytes "\n(check-sat)\n")
+    → PutsScript file b r w0 w5
+unfolding PutsScript
+script-put file b r w0 w1 w2 w3 w4 w5 u1 u2 e3 u4 e5 t end e eb =
+    subst
+    (λ (x : Bounds). PutsAll openingPart r (section comment (take (x .datatypes) file) (x .comments)) w0 w1 → PutsAll each r (declarationTexts file x) w1 w2
+    → PutsAll (assertionParts file x) r (constraintIn file x) w3 w4 → w5 ≡ puts r w0 (partsOf t))
+    (sym eb) (λ v1 v2 v4. put-all file t (opened file t end e) r w0 w1 w2 w3 w4 w5 v1 v2 e3 v4 e5) u1 u2 u4
+
+-- at first nothing was written
+started : (p : Progress) (buf : List ℕ) → (p .seen ≡ 0) × (p .len ≡ 0) × (p .longest ≡ 0) → writing p buf ≡ fresh buf
+started p buf e = λ i. record { seen = e .0 i; len = e .1 i; longest = e .2 i; buf = buf }
+
+pub script-from-start : (file : List ℕ) (b : Bounds) (r : Range) (p : Progress) (buf : List ℕ) (w1 w2 w3 w4 w5 : Writing) → (p .seen ≡ 0) × (p .len ≡ 0) × (p .longest ≡ 0)
+    → PutsAll openingPart r (section comment (take (b .datatypes) file) (b .comments)) (writing p buf) w1 → PutsAll each r (declarationTexts file b) w1 w2 → w3 ≡ put r w2 (bytes "\n")
+    → PutsAll (assertionParts file b) r (constraintIn file b) w3 w4 → w5 ≡ put r w4 (bytes "\n(check-sat)\n") → PutsScript file b r (fresh buf) w5
+script-from-start file b r p buf w1 w2 w3 w4 w5 e u1 u2 e3 u4 e5 =
+    subst (λ (w : Writing). PutsScript file b r w w5) (started p buf e) (script-put file b r (writing p buf) w1 w2 w3 w4 w5 u1 u2 e3 u4 e5)
+
+-- measuring is writing into no buffer
+pub measured : (file : List ℕ) (b : Bounds) (r : Range) (p : Progress) (buf after : List ℕ) → buf ≡ [] → PutsScript file b r (fresh buf) (writing p after) → Measured file b r p
+unfolding PutsScript Measured
+measured file b r p buf after e0 u t end e eb =
+    let v : writing p after ≡ puts r (fresh []) (partsOf t) = u t end e eb ∙ ap (λ (x : List ℕ). puts r (fresh x) (partsOf t)) e0 in
+    (ap (λ (w : Writing). w .seen) v, ap (λ (w : Writing). w .len) v, ap (λ (w : Writing). w .longest) v)

@@ -1,0 +1,100 @@
+-- What the walk over the parts of a file puts. Only contracts of inner functions speak of it.
+use Prim.Native.Nat.{ℕ}
+use mathlib.Core.List.{List, [], _∷_, _++_, map}
+use mathlib.Core.Path.{_≡_}
+use lib.ListN.{take}
+use Rattle.task.specs.Ast.{Constraint, Task}
+use Rattle.task.specs.Decode.{Res, got, bind, Decoder, give, _▹_, comment, datatype, constant, function, kvar, section, decConstraint, deepest}
+use Rattle.task.specs.Task.{taskOf}
+use Rattle.item_check.specs.declared.Section.{Section}
+use Rattle.item_check.specs.declared.Section.the-variants.{Comments, Datatypes, Constants, Functions, KVars}
+use Rattle.inspect.specs.declared.Bounds.{Bounds}
+use Rattle.inspect.specs.Inspect.{boundsOf}
+use Rattle.inspect.specs.Walk.{Inside}
+use Rattle.smt_text.specs.Encoder.{Encoder}
+use Rattle.smt_text.specs.Text.{write-datatype-decl, write-const-decl, write-fun-def, write-kvar-decl}
+use Rattle.smt_sort.specs.declared.Datatypes as types
+use Rattle.smt_sort.specs.Section.{encoderIn}
+use Rattle.horn_text.specs.Script.{join, write-comment, opening, partsOf}
+use Rattle.flatten.specs.declared.Range.{Range}
+use Rattle.flatten.specs.declared.Progress.{Progress}
+use Rattle.flatten.specs.Parts.{Writing, puts, clauseParts}
+
+-- the text of an item, by the section that it stands in
+unfoldable pub itemText : Encoder → Section → Decoder (List ℕ)
+itemText enc Comments = comment ▹ λ c. give (write-comment c)
+itemText enc Datatypes = datatype ▹ λ d. give (write-datatype-decl enc d)
+itemText enc Constants = constant ▹ λ b. give (write-const-decl enc b)
+itemText enc Functions = function ▹ λ f. give (write-fun-def enc f)
+itemText enc KVars = kvar ▹ λ k. give (write-kvar-decl enc k)
+
+-- a text as it is
+abbrev pub itself : List ℕ → List ℕ
+itself t = t
+
+-- a text as one part
+abbrev pub alone : List ℕ → List (List ℕ)
+alone t = t ∷ []
+
+-- the lines of comments
+unfoldable pub commentLines : List (List ℕ) → List ℕ
+commentLines cs = join (map write-comment cs)
+
+-- Where a piece was decoded, its parts were put: where it ends does not matter.
+unfoldable pub PutsAll : {A : Type 0} → (A → List (List ℕ)) → Range → Res A → Writing → Writing → Type 0
+PutsAll {A} parts r d w w' = (a : A) (p : ℕ) → d ≡ got a p → w' ≡ puts r w (parts a)
+
+-- the opening as one part
+abbrev pub openingPart : List (List ℕ) → List (List ℕ)
+openingPart cs = opening cs ∷ []
+
+-- texts as parts
+abbrev pub each : List (List ℕ) → List (List ℕ)
+each ts = ts
+
+-- where a file's datatypes are
+abbrev pub typesOf : Bounds → types.Datatypes
+typesOf b = record { at = b .datatypes; end = b .constants }
+
+-- the texts of a section that stands in the file from a position to an end
+abbrev pub sectionTexts : List ℕ → Bounds → Section → ℕ → ℕ → Res (List (List ℕ))
+sectionTexts file b i at end = section (itemText (encoderIn (take end file) (typesOf b)) i) (take end file) at
+
+-- the texts of the declarations, in section order
+unfoldable pub declarationTexts : List ℕ → Bounds → Res (List (List ℕ))
+declarationTexts file b =
+    bind (sectionTexts file b Datatypes (b .datatypes) (b .constants)) (λ ds p.
+    bind (sectionTexts file b Constants (b .constants) (b .functions)) (λ cs q.
+    bind (sectionTexts file b Functions (b .functions) (b .kvars)) (λ fs r.
+    bind (sectionTexts file b KVars (b .kvars) (b .constraint)) (λ ks t.
+    got (ds ++ (cs ++ (fs ++ ks))) t))))
+
+-- the constraint
+abbrev pub constraintIn : List ℕ → Bounds → Res Constraint
+constraintIn file b = decConstraint deepest (take (b .end) file) (b .constraint)
+
+-- its assertions
+unfoldable pub assertionParts : List ℕ → Bounds → Constraint → List (List ℕ)
+assertionParts file b c = clauseParts (encoderIn (take (b .end) file) (typesOf b)) [] c
+
+-- nothing was written, into this buffer
+abbrev pub fresh : List ℕ → Writing
+fresh buf = record { seen = 0; len = 0; longest = 0; buf = buf }
+
+-- Where the file holds a task, and b is where its sections are, the task's parts in the range were put.
+unfoldable pub PutsScript : List ℕ → Bounds → Range → Writing → Writing → Type 0
+PutsScript file b r w w' = (t : Task) (end : ℕ) → taskOf file ≡ got t end → b ≡ boundsOf file → w' ≡ puts r w (partsOf t)
+
+-- what is counted of it: how many parts there are, how long those in the range are together and how long the longest
+unfoldable pub Measured : List ℕ → Bounds → Range → Progress → Type 0
+Measured file b r p =
+    (t : Task) (end : ℕ) → taskOf file ≡ got t end → b ≡ boundsOf file
+    → (p .seen ≡ puts r (fresh []) (partsOf t) .seen) × (p .len ≡ puts r (fresh []) (partsOf t) .len) × (p .longest ≡ puts r (fresh []) (partsOf t) .longest)
+
+-- The file holds a task, and b is where its sections are.
+pub record Accepted (file : List ℕ) (b : Bounds) : Type 0 where
+  pub inside : Inside file b
+  pub task : Task
+  pub end : ℕ
+  pub held : taskOf file ≡ got task end
+  pub bounds : b ≡ boundsOf file

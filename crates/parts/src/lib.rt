@@ -1,0 +1,271 @@
+// The parts of a script and the walk over those in a range, `write_smt_horn` of `smt_horn.rs`: the opening, the declarations, the blank line,
+// the assertions, the closing. Each is written into the buffer behind the last written byte, and counted.
+use constraint_check::Path;
+use flatten::Moved;
+use flatten::Progress;
+use flatten::Range;
+use inspect::Bounds;
+use item_check::Section;
+use output::Out;
+use smt_sort::Datatypes;
+use smt_word::Sent;
+use task::SpanRead;
+use task_check::Walked;
+ghost use mathlib.Core.Path.{_≡_};
+ghost use Rattle.task.specs.Decode.{comment, section as sectionOf};
+ghost use Rattle.inspect.specs.Walk.{Inside};
+ghost use Rattle.smt_sort.specs.Section.{encoderIn};
+ghost use Rattle.horn_text.specs.Script.{write-comment, opening};
+ghost use Rattle.output.specs.Emit.{output, Sends};
+ghost use Rattle.flatten.specs.Parts.{writing, put, Puts};
+ghost use Rattle.parts.specs.Whole.{itemText, itself, alone, commentLines, openingPart, each, PutsAll, declarationTexts, constraintIn, assertionParts, fresh, PutsScript, Measured};
+
+// Sends the line of the comment at a position.
+fn write_comment(s: &[u8], at: usize, buf: &mut [u8], out: Out) -> Sent
+    ensures { λ r. ⌜ Sends write-comment (comment (now (s .entry)) at) (output (now (buf .entry)) (out .len)) (output (now (buf .exit)) (r .out .len)) (r .at) ⌝ }
+{
+    let read = task::read_text(s, at);
+    let SpanRead::At(x, p) = read else {
+        return Sent { at, out };
+    };
+    let opened = out.bytes(buf, b";; ");
+    let told = opened.bytes(buf, task::bytes_of(s, x));
+    let ended = told.byte(buf, b'\n');
+    Sent { at: p, out: ended }
+}
+
+// Sends the lines of the comments from a position to the section's end.
+fn write_comments(s: &[u8], at: usize, buf: &mut [u8], out: Out) -> Sent
+    ensures { λ r. ⌜ Sends commentLines (sectionOf comment (now (s .entry)) at) (output (now (buf .entry)) (out .len)) (output (now (buf .exit)) (r .out .len)) (r .at) ⌝ }
+{
+    let mut p = at;
+    let mut sent = out;
+    while p < s.len() {
+        let one = write_comment(s, p, buf, sent);
+        let next = one.at;
+        if next <= p {
+            return Sent { at: p, out: sent };
+        }
+        p = next;
+        sent = one.out;
+    }
+    Sent { at: p, out: sent }
+}
+
+// Sends the script's opening: the logic, and the comments with a blank line behind them if there are any.
+fn write_opening(s: &[u8], at: usize, buf: &mut [u8], out: Out) -> Sent
+    ensures { λ r. ⌜ Sends opening (sectionOf comment (now (s .entry)) at) (output (now (buf .entry)) (out .len)) (output (now (buf .exit)) (r .out .len)) (r .at) ⌝ }
+{
+    let opened = out.bytes(buf, b"(set-logic HORN)\n\n");
+    if s.len() <= at {
+        return Sent { at, out: opened };
+    }
+    let comments = write_comments(s, at, buf, opened);
+    let sent = comments.out;
+    let ended = sent.byte(buf, b'\n');
+    Sent {
+        at: comments.at,
+        out: ended,
+    }
+}
+
+// Sends the text of the item at a position of a section.
+fn write_item(
+    s: &[u8],
+    at: usize,
+    section: Section,
+    types: Datatypes,
+    buf: &mut [u8],
+    out: Out,
+) -> Sent
+    ensures { λ r. ⌜ Sends itself (itemText (encoderIn (now (s .entry)) types) section (now (s .entry)) at) (output (now (buf .entry)) (out .len)) (output (now (buf .exit)) (r .out .len)) (r .at) ⌝ }
+{
+    match section {
+        Section::Comments => write_comment(s, at, buf, out),
+        Section::Datatypes => smt_fmt::write_datatype_decl(s, at, types, buf, out),
+        Section::Constants => smt_fmt::write_const_decl(s, at, types, buf, out),
+        Section::Functions => smt_fmt::write_fun_def(s, at, types, buf, out),
+        Section::KVars => smt_fmt::write_kvar_decl(s, at, types, buf, out),
+    }
+}
+
+// A fixed text as a part.
+fn put_text(text: &[u8], range: Range, buf: &mut [u8], p: Progress) -> Progress
+    ensures { λ r. ⌜ writing r (now (buf .exit)) ≡ put range (writing p (now (buf .entry))) (now (text .entry)) ⌝ }
+{
+    let seen = p.seen;
+    if range.has(seen) {
+        let len = p.len;
+        let start = output::least(len, buf.len());
+        let fresh = Out::new();
+        let sent = fresh.bytes(&mut buf[start..], text);
+        return p.placed(sent.len);
+    }
+    p.passed()
+}
+
+// The opening as a part.
+fn put_opening(s: &[u8], at: usize, range: Range, buf: &mut [u8], p: Progress) -> Progress
+    ensures { λ r. ⌜ PutsAll openingPart range (sectionOf comment (now (s .entry)) at) (writing p (now (buf .entry))) (writing r (now (buf .exit))) ⌝ }
+{
+    let seen = p.seen;
+    if range.has(seen) {
+        let len = p.len;
+        let start = output::least(len, buf.len());
+        let sent = write_opening(s, at, &mut buf[start..], Out::new());
+        let out = sent.out;
+        return p.placed(out.len);
+    }
+    p.passed()
+}
+
+// The item at a position of a section as a part.
+fn put_item(
+    s: &[u8],
+    at: usize,
+    section: Section,
+    types: Datatypes,
+    range: Range,
+    buf: &mut [u8],
+    p: Progress,
+) -> Moved
+    ensures { λ r. ⌜ Puts alone range (itemText (encoderIn (now (s .entry)) types) section (now (s .entry)) at) (writing p (now (buf .entry))) (writing (r .progress) (now (buf .exit))) (r .at) ⌝ }
+{
+    let seen = p.seen;
+    if range.has(seen) {
+        let len = p.len;
+        let start = output::least(len, buf.len());
+        let sent = write_item(s, at, section, types, &mut buf[start..], Out::new());
+        let out = sent.out;
+        return Moved {
+            at: sent.at,
+            progress: p.placed(out.len),
+        };
+    }
+    let walked = item_check::check_item(s, at, section);
+    let Walked::Next(q, _) = walked else {
+        return Moved { at, progress: p };
+    };
+    Moved {
+        at: q,
+        progress: p.passed(),
+    }
+}
+
+// The items from a position to the section's end, each as a part.
+fn put_section(
+    s: &[u8],
+    at: usize,
+    section: Section,
+    types: Datatypes,
+    range: Range,
+    buf: &mut [u8],
+    p: Progress,
+) -> Progress
+    ensures { λ r. ⌜ PutsAll each range (sectionOf (itemText (encoderIn (now (s .entry)) types) section) (now (s .entry)) at) (writing p (now (buf .entry))) (writing r (now (buf .exit))) ⌝ }
+{
+    let mut q = at;
+    let mut progress = p;
+    while q < s.len() {
+        let one = put_item(s, q, section, types, range, buf, progress);
+        let next = one.at;
+        if next <= q {
+            return progress;
+        }
+        q = next;
+        progress = one.progress;
+    }
+    progress
+}
+
+// The declarations in section order, each as a part.
+fn put_declarations(file: &[u8], b: Bounds, range: Range, buf: &mut [u8], p: Progress) -> Progress
+    requires { ⌜ Inside (now file) b ⌝ }
+    ensures { λ r. ⌜ PutsAll each range (declarationTexts (now (file .entry)) b) (writing p (now (buf .entry))) (writing r (now (buf .exit))) ⌝ }
+{
+    let datatypes = b.datatypes;
+    let constants = b.constants;
+    let functions = b.functions;
+    let kvars = b.kvars;
+    let constraint = b.constraint;
+    let types = Datatypes {
+        at: datatypes,
+        end: constants,
+    };
+    let p1 = put_section(
+        &file[..constants],
+        datatypes,
+        Section::Datatypes,
+        types,
+        range,
+        buf,
+        p,
+    );
+    let p2 = put_section(
+        &file[..functions],
+        constants,
+        Section::Constants,
+        types,
+        range,
+        buf,
+        p1,
+    );
+    let p3 = put_section(
+        &file[..kvars],
+        functions,
+        Section::Functions,
+        types,
+        range,
+        buf,
+        p2,
+    );
+    put_section(
+        &file[..constraint],
+        kvars,
+        Section::KVars,
+        types,
+        range,
+        buf,
+        p3,
+    )
+}
+
+// The assertions, each as a part.
+fn put_assertions(file: &[u8], b: Bounds, range: Range, buf: &mut [u8], p: Progress) -> Progress
+    requires { ⌜ Inside (now file) b ⌝ }
+    ensures { λ r. ⌜ PutsAll (assertionParts (now (file .entry)) b) range (constraintIn (now (file .entry)) b) (writing p (now (buf .entry))) (writing r (now (buf .exit))) ⌝ }
+{
+    let end = b.end;
+    let at = b.constraint;
+    let types = Datatypes {
+        at: b.datatypes,
+        end: b.constants,
+    };
+    let path = Path::empty();
+    let moved = flatten::flatten_constraint(&file[..end], at, 256, path, types, range, buf, p);
+    moved.progress
+}
+
+// Puts the parts in the range into the buffer, one behind the other: what has room is stored, and all is counted.
+pub fn write_smt_horn(file: &[u8], b: Bounds, range: Range, buf: &mut [u8]) -> Progress
+    requires { ⌜ Inside (now file) b ⌝ }
+    ensures { λ r. ⌜ PutsScript (now (file .entry)) b range (fresh (now (buf .entry))) (writing r (now (buf .exit))) ⌝ }
+{
+    let end = b.datatypes;
+    let at = b.comments;
+    let p0 = Progress::start();
+    let p1 = put_opening(&file[..end], at, range, buf, p0);
+    let p2 = put_declarations(file, b, range, buf, p1);
+    let p3 = put_text(b"\n", range, buf, p2);
+    let p4 = put_assertions(file, b, range, buf, p3);
+    put_text(b"\n(check-sat)\n", range, buf, p4)
+}
+
+// Counts the parts, and measures those in the range.
+pub fn measure(file: &[u8], b: Bounds, range: Range) -> Progress
+    requires { ⌜ Inside (now file) b ⌝ }
+    ensures { λ r. ⌜ Measured (now (file .entry)) b range r ⌝ }
+{
+    let mut none = [0u8; 0];
+    write_smt_horn(file, b, range, &mut none)
+}
