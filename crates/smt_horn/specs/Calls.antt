@@ -1,13 +1,13 @@
 -- The answers of the calls in this paper's terms: for each case of an answer's enum its number or its values.
 use mathlib.Core.List.{[], _∷_}
 use Rattle.horn_text.specs.Answers.{Answer, values, refused}
-use Rattle.smt_horn.specs.declared.Survey.{Survey}
-use Rattle.smt_horn.specs.declared.Survey.the-variants as survey-is
+use Rattle.smt_horn.specs.declared.Surveyed.{Surveyed}
+use Rattle.smt_horn.specs.declared.Surveyed.the-variants as survey-is
 use Rattle.smt_horn.specs.declared.Written.{Written}
 use Rattle.smt_horn.specs.declared.Written.the-variants as written-is
 
 -- survey: the numbers of parts and of assertions, the script's length and that of its longest part
-abbrev pub surveyed : Survey → Answer
+abbrev pub surveyed : Surveyed → Answer
 surveyed (survey-is.Sizes parts assertions length longest) = values (parts ∷ assertions ∷ length ∷ longest ∷ [])
 surveyed (survey-is.Refused n) = refused n
 

@@ -13,7 +13,7 @@ ghost use Rattle.smt_horn.specs.Calls.{surveyed, written};
 
 // What `survey` answers: the numbers of parts and of assertions, the length of the script and that of its longest part; or the number of the
 // refusal.
-pub enum Survey {
+pub enum Surveyed {
     Sizes(usize, usize, usize, usize),
     Refused(u8),
 }
@@ -45,16 +45,16 @@ fn one_part(i: usize) -> Range
 }
 
 // The numbers of parts and of assertions, the length of the script and that of its longest part; or refusals 1 to 7.
-pub fn survey(file: &[u8]) -> Survey
+pub fn survey(file: &[u8]) -> Surveyed
     ensures { λ r. ⌜ surveyed r ≡ surveyAnswer (now (file .entry)) ⌝ }
 {
     let inspected = inspect::inspect(file);
     match inspected {
         Inspected::Task(b, _, heads) => {
             let sizes = parts::measure(file, b, all_parts());
-            Survey::Sizes(sizes.seen, heads as usize, sizes.len, sizes.longest)
+            Surveyed::Sizes(sizes.seen, heads as usize, sizes.len, sizes.longest)
         }
-        Inspected::Refused(n) => Survey::Refused(n),
+        Inspected::Refused(n) => Surveyed::Refused(n),
     }
 }
 
