@@ -1,9 +1,8 @@
 -- What the writers of an assertion send adds up to its text.
 use mathlib.Core.Path.{_≡_, refl, sym, ap, _∙_}
 use mathlib.Core.Bool.{Bool, true, false, cond}
-use mathlib.Core.List.{List, [], _∷_, _++_, append-nil, append-assoc, nil≢cons}
-use Prim.Native.Nat.{ℕ, zero, suc, _+_, _-_, _≤_, min}
-use native.Mathlib.Numerals.{sub-one}
+use mathlib.Core.List.{List, [], _∷_, _++_, append-nil, nil≢cons}
+use Prim.Native.Nat.{ℕ, _+_, _-_, _≤_, min}
 use native.Mathlib.Omega.{arith}
 use lib.ListN.{length, take, length-append}
 use lib.Seq.{length-take-le}
@@ -13,10 +12,10 @@ use Rattle.task.specs.declared.PredNode.{PredNode}
 use Rattle.task.specs.declared.PredNode.the-variants as pred-node
 use Rattle.task.specs.declared.Span.{Span}
 use Rattle.task.specs.Ast.{Expr, Exprs, Pred}
-use Rattle.task.specs.Decode.{Res, got, bind, many, decExpr, decPred}
+use Rattle.task.specs.Decode.{Res, got, many, decExpr, decPred}
 use Rattle.task.specs.Task.{literallyTrue}
 use Rattle.task.specs.Node.{bytesOf, predOf, PredAt}
-use Rattle.task.proofs.Reading.{bind-got, got-refuse}
+use Rattle.task.proofs.Reading.{bind-got}
 use Rattle.smt_text.specs.Encoder.{Encoder}
 use Rattle.smt_text.specs.Text.{spaced, sexp-list, write-unary, write-expr, write-pred}
 use Rattle.horn_text.specs.Clauses.{ForAll, kept, bindersOf, guardsOf}

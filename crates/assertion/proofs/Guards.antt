@@ -10,8 +10,8 @@ use lib.Seq.{length-take-le, drop-cons, getD-take}
 use Rattle.task.specs.declared.Fault.{Fault}
 use Rattle.task.specs.declared.Number.{Number}
 use Rattle.task.specs.declared.Number.the-variants as number-is
-use Rattle.task.specs.Ast.{Binder, Pred}
-use Rattle.task.specs.Decode.{Res, got, refuse, bind, Decoder, number, many, counted, binder, decPred, deepest}
+use Rattle.task.specs.Ast.{Pred}
+use Rattle.task.specs.Decode.{Res, got, refuse, number, many, counted, binder, decPred, deepest}
 use Rattle.task.specs.Fault.{binderFault, predFault}
 use Rattle.task.specs.Task.{literallyTrue}
 use Rattle.task.specs.Node.{numberOf}
@@ -19,14 +19,14 @@ use Rattle.task.proofs.Reading.{bind-got, got-refuse}
 use Rattle.task_check.specs.declared.Walked.{Walked}
 use Rattle.task_check.specs.declared.Walked.the-variants as walked-is
 use Rattle.task_check.specs.Walk.{walked, readTrue}
-use Rattle.task_check.proofs.Rows.{next-is, refused-is}
+use Rattle.task_check.proofs.Rows.{refused-is}
 use Rattle.smt_text.specs.Encoder.{Encoder}
 use Rattle.smt_text.specs.Text.{spaced, write-binder, write-pred}
 use Rattle.horn_text.specs.Clauses.{ForAll, kept, guardsOf}
 use Rattle.horn_text.specs.Script.{write-preds}
 use Rattle.output.specs.Emit.{Output, emit, emits, Runs, Sends}
 use Rattle.output.proofs.Sent.{emits-append}
-use Rattle.output.proofs.Sending.{runs-refused, runs-end, runs-then, Steps, Owing, owing-start, owing-more, owing-end}
+use Rattle.output.proofs.Sending.{runs-refused, Steps, Owing, owing-start, owing-more, owing-end}
 use Rattle.assertion.specs.Under.{forAllAt, onPath, varsText, keptText, ownText, guardsText, count, counts, countOwn, countAll, Counts}
 
 -- PATHS

@@ -1,7 +1,7 @@
 -- What the steps of the walk over a constraint add up to.
 use mathlib.Core.Path.{_≡_, refl, sym, ap, _∙_}
-use mathlib.Core.Bool.{Bool, true, false, cond}
-use mathlib.Core.List.{List, [], _∷_, _++_, map, map-append}
+use mathlib.Core.Bool.{Bool, true, false}
+use mathlib.Core.List.{List, [], _∷_, _++_, map-append}
 use Prim.Native.Nat.{ℕ, zero, suc, _+_, _-_, _<_, _≤_, min}
 use native.Mathlib.Omega.{arith}
 use lib.ListN.{length, take, drop}
@@ -10,10 +10,9 @@ use Rattle.task.specs.declared.Number.{Number}
 use Rattle.task.specs.declared.Number.the-variants as number-is
 use Rattle.task.specs.declared.ConstraintNode.{ConstraintNode}
 use Rattle.task.specs.declared.ConstraintNode.the-variants as constraint-node
-use Rattle.task.specs.Ast.{Binder, Sort, Pred, Constraint, Constraints}
-use Rattle.task.specs.Decode.{Res, got, refuse, bind, Decoder, number, many, counted, name, binder, decSort, decPred, decConstraint, deepest}
+use Rattle.task.specs.Ast.{Sort, Pred, Constraint, Constraints}
+use Rattle.task.specs.Decode.{Res, got, bind, number, many, counted, name, binder, decSort, decPred, decConstraint, deepest}
 use Rattle.task.specs.Fault.{each, binderFault, predFault}
-use Rattle.task.specs.Laws.{Agrees, Deeper}
 use Rattle.task.specs.Task.{literallyTrue}
 use Rattle.task.specs.Node.{numberOf, constraintOf, ConstraintAt}
 use Rattle.task.proofs.Reading.{bind-got, got-refuse}
@@ -25,10 +24,10 @@ use Rattle.task_check.proofs.Rows.{refused-is}
 use Rattle.constraint_check.specs.Around.{forAll}
 use Rattle.constraint_check.proofs.Constraints.{by-node}
 use Rattle.smt_text.specs.Encoder.{Encoder}
-use Rattle.horn_text.specs.Clauses.{HornClause, ForAll, kept, bindersOf, guardsOf, flatten-constraint, flatten-constraints}
+use Rattle.horn_text.specs.Clauses.{ForAll, bindersOf, guardsOf, flatten-constraint, flatten-constraints}
 use Rattle.horn_text.specs.Script.{write-assert, write-asserts}
 use Rattle.horn_text.proofs.Places.{binders-snoc, guards-snoc}
-use Rattle.output.specs.Emit.{output, most, Runs, Sends}
+use Rattle.output.specs.Emit.{output, most, Sends}
 use Rattle.output.proofs.Sending.{runs-refused, runs-end, runs-then, Steps, Owing, owing-start, owing-more, owing-end}
 use Rattle.assertion.specs.Under.{forAllAt, onPath, assertText, HeadSends}
 use Rattle.flatten.specs.declared.Range.{Range}
@@ -157,22 +156,6 @@ module _ (enc : Encoder) (r : Range) (path : Res (List ForAll)) (l : ℕ) (s : L
 
 -- A FORALL
 
--- its predicates decode alike with more levels left
-deeper-row : (l : ℕ) → l ≤ deepest → (s : List ℕ) (n at : ℕ) (ps : List Pred) (p : ℕ) → many [] _∷_ (decPred l) n s at ≡ got ps p
-    → many [] _∷_ (decPred deepest) n s at ≡ got ps p
-deeper-row l h s zero at ps p e = e
-deeper-row l h s (suc n) at ps p e =
-    let i = bind-got (decPred l s at) _ ps p e in
-    let j = bind-got (many [] _∷_ (decPred l) n s (i .next)) _ ps p (i .then) in
-    rw (deeper .preds l deepest h .agrees s at (i .value) (i .next) (i .first), deeper-row l h s n (i .next) (j .value) (j .next) (j .first)) (j .then)
-
--- so does its binder
-deeper-binder : (l : ℕ) → l ≤ deepest → (s : List ℕ) (at : ℕ) (b : Binder) (p : ℕ) → binder l s at ≡ got b p → binder deepest s at ≡ got b p
-deeper-binder l h s at b p e =
-    let i = bind-got (name s at) _ b p e in
-    let j = bind-got (decSort l s (i .next)) _ b p (i .then) in
-    rw (i .first, deeper .sorts l deepest h .agrees s (i .next) (j .value) (j .next) (j .first)) (j .then)
-
 -- a name and a sort make a binder
 made-binder : (l : ℕ) (s : List ℕ) (at : ℕ) (x : List ℕ) (p : ℕ) (b : Sort) (q : ℕ) → name s at ≡ got x p → decSort l s p ≡ got b q
     → binder l s at ≡ got (record { name = x; sort = b }) q
@@ -284,7 +267,11 @@ module _ (enc : Encoder) (r : Range) (s os : List ℕ) (l at : ℕ) (w w' : Writ
           let eb : walked-is.Next b x ≡ walked-is.Next (a .body) (each predFault (a .all .preds)) = sym k' ∙ k ∙ ap (walked (each predFault)) (held c z h) in
           let e1 : b ≡ a .body = cc in
           let stands : forAllAt s at ≡ got (a .all) 0 =
-          rw (deeper-binder l d s at (a .all .binder) (a .p) (a .binds), a .numbers, deeper-row l d s (a .n) (a .q) (a .all .preds) (a .body) (a .holds)) in
+          rw (
+            deeper .binders l deepest d .agrees s at (a .all .binder) (a .p) (a .binds),
+            a .numbers,
+            deeper .preds l deepest d (a .n) .agrees s (a .q) (a .all .preds) (a .body) (a .holds),
+          ) in
           let on : onPath s os' ≡ got (fs ++ a .all ∷ []) 0 = ap (onPath s) o ∙ on-snoc s os at fs y (a .all) g stands in
           let n = i (fs ++ a .all ∷ []) 0 on (a .inner) z (rw e1 (a .rest)) in
           (n .0, n .1 ∙ under-one enc r w fs (a .all) (a .inner) ∙ ap (λ (k : Constraint). puts r w (clauseParts enc fs k)) (a .is))

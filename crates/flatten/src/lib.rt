@@ -112,15 +112,8 @@ fn put_assert(
     if range.has(seen) {
         let len = p.len;
         let start = output::least(len, buf.len());
-        let sent = assertion::write_assert(
-            s,
-            path,
-            at,
-            levels,
-            types,
-            &mut buf[start..],
-            Out::new(),
-        );
+        let none = Out::new();
+        let sent = assertion::write_assert(s, path, at, levels, types, &mut buf[start..], none);
         let out = sent.out;
         return Moved {
             at: sent.at,

@@ -21,17 +21,13 @@ use Rattle.task.proofs.Reading.{bind-got, got-refuse}
 use Rattle.horn_text.specs.Script.{join, partsOf, scriptOf}
 use Rattle.horn_text.specs.Commands.{commandsOf}
 use Rattle.horn_text.specs.Answers.{Answer, refused, surveyOf, surveyAnswer, partOf, partAnswer, partLaid, partBuffer, scriptFitted, scriptAnswer, scriptLaid, scriptBuffer}
-use Rattle.horn_text.specs.Demand.{Demand1, partsWritten, Demand2, Carries, Promised, Demand3}
+use Rattle.horn_text.specs.Demand.{Demand1, nth, partsWritten, Demand2, Carries, Promised, Demand3}
 use Rattle.horn_text.proofs.Readings.{script-read, first-assertions}
 use Rattle.horn_text.proofs.Places.{clauses-placed, clauses-number, parts-number}
 use Rattle.horn_text.proofs.Lines.{parts-lined}
 use Rattle.horn_text.proofs.Opened.{cond-got}
 use Rattle.horn_text.proofs.Lengths.{script-short}
 use Rattle.horn_text.proofs.Refusals.{refusals}
-
--- the i-th part of the script
-abbrev nth : Task → ℕ → List ℕ
-nth t i = getD (partsOf t) i []
 
 -- DEMAND 1
 

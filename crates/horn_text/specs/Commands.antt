@@ -1,7 +1,7 @@
 -- What is called for: the commands of a task, from the decoded task, without the writer.
 use mathlib.Core.Bool.{Bool, true, false, cond}
 use mathlib.Core.List.{List, [], _∷_, _++_, map}
-use Rattle.smtlib.specs.Lexicon.{Kind, bytes, same}
+use Rattle.smtlib.specs.Lexicon.{bytes, same}
 use Rattle.smtlib.specs.Read.{Token, Sexps, Command}
 use Rattle.task.specs.Ast.{Binder, Pred, Task}
 use Rattle.smt_text.specs.Encoder.{Encoder, encoder}

@@ -30,6 +30,10 @@ pub record Demand1 : Type 0 where
   pub part-unchanged : (file : List ℕ) (i n : ℕ) (buf : List ℕ) → partAnswer file i (length buf) ≡ refused n → partBuffer file i buf ≡ buf
   pub script-unchanged : (file : List ℕ) (n : ℕ) (buf : List ℕ) → scriptAnswer file (length buf) ≡ refused n → scriptBuffer file buf ≡ buf
 
+-- part i of a task's script
+abbrev pub nth : Task → ℕ → List ℕ
+nth t i = getD (partsOf t) i []
+
 -- what n calls of part, from number i on, each into a buffer of its own, put at the buffers' starts
 abbrev pub partsWritten : List ℕ → (ℕ → List ℕ) → (ℕ → ℕ) → ℕ → ℕ → List (List ℕ)
 partsWritten file bufs lengths i zero = []
@@ -42,23 +46,22 @@ pub record Script (file : List ℕ) (t : Task) : Type 0 where
   pub parts : length (partsOf t) ≡ declarations t + headsOf (t .constraint) + 3
   pub short : length (scriptOf t) < 2 ^ 40
   -- every part ends in a line feed
-  pub lined : (i : ℕ) → i < length (partsOf t) → Lined (getD (partsOf t) i [])
+  pub lined : (i : ℕ) → i < length (partsOf t) → Lined (nth t i)
   -- part i is the i-th, at the start of any buffer with room for it, and the bytes behind it are unchanged
-  pub part-length : (i room : ℕ) → i < length (partsOf t) → length (getD (partsOf t) i []) ≤ room
-      → partAnswer file i room ≡ values (length (getD (partsOf t) i []) ∷ [])
-  pub part-text : (i : ℕ) (buf : List ℕ) → i < length (partsOf t) → length (getD (partsOf t) i []) ≤ length buf
-      → take (length (getD (partsOf t) i [])) (partBuffer file i buf) ≡ getD (partsOf t) i []
-  pub part-rest : (i : ℕ) (buf : List ℕ) → i < length (partsOf t) → length (getD (partsOf t) i []) ≤ length buf
-      → drop (length (getD (partsOf t) i [])) (partBuffer file i buf) ≡ drop (length (getD (partsOf t) i [])) buf
+  pub part-length : (i room : ℕ) → i < length (partsOf t) → length (nth t i) ≤ room → partAnswer file i room ≡ values (length (nth t i) ∷ [])
+  pub part-text : (i : ℕ) (buf : List ℕ) → i < length (partsOf t) → length (nth t i) ≤ length buf
+      → take (length (nth t i)) (partBuffer file i buf) ≡ nth t i
+  pub part-rest : (i : ℕ) (buf : List ℕ) → i < length (partsOf t) → length (nth t i) ≤ length buf
+      → drop (length (nth t i)) (partBuffer file i buf) ≡ drop (length (nth t i)) buf
   -- so is the script
   pub script-length : (room : ℕ) → length (scriptOf t) ≤ room → scriptAnswer file room ≡ values (length (scriptOf t) ∷ [])
   pub script-text : (buf : List ℕ) → length (scriptOf t) ≤ length buf → take (length (scriptOf t)) (scriptBuffer file buf) ≡ scriptOf t
   pub script-rest : (buf : List ℕ) → length (scriptOf t) ≤ length buf
       → drop (length (scriptOf t)) (scriptBuffer file buf) ≡ drop (length (scriptOf t)) buf
   -- the parts, as the calls write them, joined are the script, as the call writes it
-  pub joined : (bufs : ℕ → List ℕ) (buf : List ℕ) → ((i : ℕ) → i < length (partsOf t) → length (getD (partsOf t) i []) ≤ length (bufs i))
+  pub joined : (bufs : ℕ → List ℕ) (buf : List ℕ) → ((i : ℕ) → i < length (partsOf t) → length (nth t i) ≤ length (bufs i))
       → length (scriptOf t) ≤ length buf
-      → join (partsWritten file bufs (λ i. length (getD (partsOf t) i [])) 0 (length (partsOf t))) ≡ take (length (scriptOf t)) (scriptBuffer file buf)
+      → join (partsWritten file bufs (λ i. length (nth t i)) 0 (length (partsOf t))) ≡ take (length (scriptOf t)) (scriptBuffer file buf)
 
 -- of every file that is accepted
 abbrev pub Demand2 : Type 0

@@ -1,10 +1,9 @@
 -- What the steps of putting parts add up to: fixed texts, the opening, the items of a section.
-use mathlib.Core.Path.{_≡_, refl, sym, ap, _∙_, subst}
-use mathlib.Core.Bool.{Bool, true, false, cond}
+use mathlib.Core.Path.{_≡_, refl, sym, ap, _∙_}
+use mathlib.Core.Bool.{true, false}
 use mathlib.Core.List.{List, [], _∷_, _++_, map, nil≢cons}
 use Prim.Native.Nat.{ℕ, zero, suc, _+_, _-_, _<_, _≤_, min}
 use native.Mathlib.Omega.{arith}
-use lib.Dec.{leb}
 use lib.ListN.{length, take, drop}
 use borrow.Author.Tests.{le-leb, lt-leb}
 use Rattle.smtlib.specs.Lexicon.{bytes}
@@ -13,7 +12,7 @@ use Rattle.task.specs.declared.Span.{Span}
 use Rattle.task.specs.declared.SpanRead.{SpanRead}
 use Rattle.task.specs.declared.SpanRead.the-variants as span-is
 use Rattle.task.specs.Covers.{CoversSome}
-use Rattle.task.specs.Decode.{Res, got, refuse, bind, comment, datatype, constant, function, kvar, items, section}
+use Rattle.task.specs.Decode.{Res, got, bind, comment, datatype, constant, function, kvar, items, section}
 use Rattle.task.specs.Fault.{commentFault, datatypeFault, binderFault, functionFault, kvarFault}
 use Rattle.task.specs.Node.{bytesOf, spanOf}
 use Rattle.task.proofs.Reading.{bind-got, got-refuse}
@@ -28,13 +27,13 @@ use Rattle.item_check.specs.Items.{itemWalk}
 use Rattle.smt_text.specs.Encoder.{Encoder}
 use Rattle.smt_text.specs.Text.{write-datatype-decl, write-const-decl, write-fun-def, write-kvar-decl}
 use Rattle.horn_text.specs.Script.{join, write-comment, opening}
-use Rattle.output.specs.Emit.{Output, output, most, emit, emits, Runs, Sends}
+use Rattle.output.specs.Emit.{Output, output, most, emit, emits, Sends}
 use Rattle.output.proofs.Sent.{emits-append}
 use Rattle.output.proofs.Sending.{sends-refused, sends-end, sends-map, Steps}
 use Rattle.flatten.specs.declared.Range.{Range}
 use Rattle.flatten.specs.declared.Progress.{Progress}
-use Rattle.flatten.specs.Parts.{Writing, writing, has, placed, passed, put, puts, Puts}
-use Rattle.flatten.proofs.Lending.{put-in, put-out, puts-append}
+use Rattle.flatten.specs.Parts.{Writing, writing, has, placed, passed, puts, Puts}
+use Rattle.flatten.proofs.Lending.{put-in, put-out}
 use Rattle.flatten.proofs.Sections.{covers-map}
 use Rattle.parts.specs.Whole.{itemText, itself, alone, commentLines, PutsAll}
 

@@ -1,21 +1,22 @@
 -- What the parts of a file add up to: its declarations, its assertions, its script.
-use mathlib.Core.Path.{_≡_, refl, sym, ap, _∙_, subst}
+use mathlib.Core.Path.{_≡_, sym, ap, _∙_, subst}
 use mathlib.Core.List.{List, [], _∷_, _++_, map}
-use Prim.Native.Nat.{ℕ, _≤_, min}
+use Prim.Native.Nat.{ℕ, _≤_}
 use native.Mathlib.Omega.{arith}
-use lib.ListN.{take}
+use lib.ListN.{length, take}
 use lib.Seq.{take-take}
 use Rattle.smtlib.specs.Lexicon.{bytes}
-use Rattle.task.specs.Ast.{Constraint, Task}
-use Rattle.task.specs.Decode.{Res, got, bind, Decoder, give, _▹_, comment, datatype, constant, function, kvar, section, decConstraint, deepest}
-use Rattle.task.specs.Task.{bound, taskOf}
+use Rattle.task.specs.Ast.{Task}
+use Rattle.task.specs.Decode.{got, bind, Decoder, give, _▹_, comment, datatype, constant, function, kvar, section}
+use Rattle.task.specs.Task.{bound}
 use Rattle.task.proofs.Reading.{bind-got}
-use Rattle.item_check.specs.declared.Section.the-variants.{Datatypes, Constants, Functions, KVars}
+use Rattle.item_check.specs.declared.Section.{Section}
+use Rattle.item_check.specs.declared.Section.the-variants.{Comments, Datatypes, Constants, Functions, KVars}
 use Rattle.inspect.specs.declared.Bounds.{Bounds}
 use Rattle.inspect.specs.Inspect.{boundsOf}
+use Rattle.inspect.specs.Walk.{Inside}
 use Rattle.smt_text.specs.Encoder.{Encoder, encoder}
 use Rattle.smt_text.specs.Text.{write-datatype-decl, write-const-decl, write-fun-def, write-kvar-decl}
-use Rattle.smt_sort.specs.declared.Datatypes as types
 use Rattle.smt_sort.specs.Section.{encoderIn}
 use Rattle.smt_sort.proofs.Sorts.{encoder-is}
 use Rattle.horn_text.specs.Clauses.{clausesOf}
@@ -27,21 +28,34 @@ use Rattle.flatten.specs.declared.Progress.{Progress}
 use Rattle.flatten.specs.Parts.{Writing, writing, put, puts, PutsUnder, Puts, clauseParts}
 use Rattle.flatten.proofs.Lending.{puts-append}
 use Rattle.flatten.proofs.Sections.{section-map}
-use Rattle.parts.specs.Whole.{itemText, openingPart, each, PutsAll, typesOf, sectionTexts, declarationTexts, constraintIn, assertionParts, fresh, PutsScript, Measured}
+use Rattle.parts.specs.Whole.{itemText, openingPart, each, PutsAll, typesOf, startOf, endOf, sectionTexts, declarationTexts, constraintIn, assertionParts, fresh, PutsScript, Measured}
 
 -- DECLARATIONS
 
+-- a section ends inside the file
+pub ends-inside : (file : List ℕ) (b : Bounds) (i : Section) → Inside file b → endOf b i ≤ length file
+ends-inside file b Comments h = h .datatypes
+ends-inside file b Datatypes h = h .constants
+ends-inside file b Constants h = h .functions
+ends-inside file b Functions h = h .kvars
+ends-inside file b KVars h = h .constraint
+
+-- where it begins and ends, as the code has it
+pub section-put : (file : List ℕ) (b : Bounds) (i : Section) (at end : ℕ) (r : Range) (w w' : Writing) → at ≡ startOf b i → end ≡ endOf b i
+    → PutsAll each r (section (itemText (encoderIn (take end file) (typesOf b)) i) (take end file) at) w w' → PutsAll each r (sectionTexts file b i) w w'
+section-put file b i at end r w w' e e' u = rw (e, e') at u
+
 pub declarations-put : (file : List ℕ) (b : Bounds) (r : Range) (w w1 w2 w3 w4 : Writing)
-    → PutsAll each r (sectionTexts file b Datatypes (b .datatypes) (b .constants)) w w1
-    → PutsAll each r (sectionTexts file b Constants (b .constants) (b .functions)) w1 w2
-    → PutsAll each r (sectionTexts file b Functions (b .functions) (b .kvars)) w2 w3
-    → PutsAll each r (sectionTexts file b KVars (b .kvars) (b .constraint)) w3 w4 → PutsAll each r (declarationTexts file b) w w4
+    → PutsAll each r (sectionTexts file b Datatypes) w w1
+    → PutsAll each r (sectionTexts file b Constants) w1 w2
+    → PutsAll each r (sectionTexts file b Functions) w2 w3
+    → PutsAll each r (sectionTexts file b KVars) w3 w4 → PutsAll each r (declarationTexts file b) w w4
 unfolding PutsAll declarationTexts
 declarations-put file b r w w1 w2 w3 w4 u1 u2 u3 u4 us q e =
-    let i = bind-got (sectionTexts file b Datatypes (b .datatypes) (b .constants)) _ us q e in
-    let j = bind-got (sectionTexts file b Constants (b .constants) (b .functions)) _ us q (i .then) in
-    let k = bind-got (sectionTexts file b Functions (b .functions) (b .kvars)) _ us q (j .then) in
-    let l = bind-got (sectionTexts file b KVars (b .kvars) (b .constraint)) _ us q (k .then) in
+    let i = bind-got (sectionTexts file b Datatypes) _ us q e in
+    let j = bind-got (sectionTexts file b Constants) _ us q (i .then) in
+    let k = bind-got (sectionTexts file b Functions) _ us q (j .then) in
+    let l = bind-got (sectionTexts file b KVars) _ us q (k .then) in
     let all : i .value ++ (j .value ++ (k .value ++ l .value)) ≡ us = cc in
     u4 (l .value) (l .next) (l .first)
     ∙ ap (λ (v : Writing). puts r v (l .value)) (u3 (k .value) (k .next) (k .first))

@@ -56,17 +56,33 @@ each ts = ts
 abbrev pub typesOf : Bounds → types.Datatypes
 typesOf b = record { at = b .datatypes; end = b .constants }
 
--- the texts of a section that stands in the file from a position to an end
-abbrev pub sectionTexts : List ℕ → Bounds → Section → ℕ → ℕ → Res (List (List ℕ))
-sectionTexts file b i at end = section (itemText (encoderIn (take end file) (typesOf b)) i) (take end file) at
+-- where a section begins
+abbrev pub startOf : Bounds → Section → ℕ
+startOf b Comments = b .comments
+startOf b Datatypes = b .datatypes
+startOf b Constants = b .constants
+startOf b Functions = b .functions
+startOf b KVars = b .kvars
+
+-- where it ends
+abbrev pub endOf : Bounds → Section → ℕ
+endOf b Comments = b .datatypes
+endOf b Datatypes = b .constants
+endOf b Constants = b .functions
+endOf b Functions = b .kvars
+endOf b KVars = b .constraint
+
+-- the texts of a section of the file
+abbrev pub sectionTexts : List ℕ → Bounds → Section → Res (List (List ℕ))
+sectionTexts file b i = section (itemText (encoderIn (take (endOf b i) file) (typesOf b)) i) (take (endOf b i) file) (startOf b i)
 
 -- the texts of the declarations, in section order
 unfoldable pub declarationTexts : List ℕ → Bounds → Res (List (List ℕ))
 declarationTexts file b =
-    bind (sectionTexts file b Datatypes (b .datatypes) (b .constants)) (λ ds p.
-    bind (sectionTexts file b Constants (b .constants) (b .functions)) (λ cs q.
-    bind (sectionTexts file b Functions (b .functions) (b .kvars)) (λ fs r.
-    bind (sectionTexts file b KVars (b .kvars) (b .constraint)) (λ ks t.
+    bind (sectionTexts file b Datatypes) (λ ds p.
+    bind (sectionTexts file b Constants) (λ cs q.
+    bind (sectionTexts file b Functions) (λ fs r.
+    bind (sectionTexts file b KVars) (λ ks t.
     got (ds ++ (cs ++ (fs ++ ks))) t))))
 
 -- the constraint

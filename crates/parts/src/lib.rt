@@ -18,7 +18,7 @@ ghost use Rattle.smt_sort.specs.Section.{encoderIn};
 ghost use Rattle.horn_text.specs.Script.{write-comment, opening};
 ghost use Rattle.output.specs.Emit.{output, Sends};
 ghost use Rattle.flatten.specs.Parts.{writing, put, Puts};
-ghost use Rattle.parts.specs.Whole.{itemText, itself, alone, commentLines, openingPart, each, PutsAll, declarationTexts, constraintIn, assertionParts, fresh, PutsScript, Measured};
+ghost use Rattle.parts.specs.Whole.{itemText, itself, alone, commentLines, openingPart, each, PutsAll, startOf, endOf, sectionTexts, declarationTexts, constraintIn, assertionParts, fresh, PutsScript, Measured};
 
 // Sends the line of the comment at a position.
 fn write_comment(s: &[u8], at: usize, buf: &mut [u8], out: Out) -> Sent
@@ -178,56 +178,62 @@ fn put_section(
     progress
 }
 
+// Where a section begins.
+fn start_of(b: Bounds, section: Section) -> usize
+    ensures { λ r. ⌜ r ≡ startOf b section ⌝ }
+{
+    match section {
+        Section::Comments => b.comments,
+        Section::Datatypes => b.datatypes,
+        Section::Constants => b.constants,
+        Section::Functions => b.functions,
+        Section::KVars => b.kvars,
+    }
+}
+
+// Where it ends.
+fn end_of(b: Bounds, section: Section) -> usize
+    ensures { λ r. ⌜ r ≡ endOf b section ⌝ }
+{
+    match section {
+        Section::Comments => b.datatypes,
+        Section::Datatypes => b.constants,
+        Section::Constants => b.functions,
+        Section::Functions => b.kvars,
+        Section::KVars => b.constraint,
+    }
+}
+
+// The items of a section of the file, each as a part.
+fn put_items(
+    file: &[u8],
+    b: Bounds,
+    section: Section,
+    range: Range,
+    buf: &mut [u8],
+    p: Progress,
+) -> Progress
+    requires { ⌜ Inside (now file) b ⌝ }
+    ensures { λ r. ⌜ PutsAll each range (sectionTexts (now (file .entry)) b section) (writing p (now (buf .entry))) (writing r (now (buf .exit))) ⌝ }
+{
+    let at = start_of(b, section);
+    let end = end_of(b, section);
+    let types = Datatypes {
+        at: b.datatypes,
+        end: b.constants,
+    };
+    put_section(&file[..end], at, section, types, range, buf, p)
+}
+
 // The declarations in section order, each as a part.
 fn put_declarations(file: &[u8], b: Bounds, range: Range, buf: &mut [u8], p: Progress) -> Progress
     requires { ⌜ Inside (now file) b ⌝ }
     ensures { λ r. ⌜ PutsAll each range (declarationTexts (now (file .entry)) b) (writing p (now (buf .entry))) (writing r (now (buf .exit))) ⌝ }
 {
-    let datatypes = b.datatypes;
-    let constants = b.constants;
-    let functions = b.functions;
-    let kvars = b.kvars;
-    let constraint = b.constraint;
-    let types = Datatypes {
-        at: datatypes,
-        end: constants,
-    };
-    let p1 = put_section(
-        &file[..constants],
-        datatypes,
-        Section::Datatypes,
-        types,
-        range,
-        buf,
-        p,
-    );
-    let p2 = put_section(
-        &file[..functions],
-        constants,
-        Section::Constants,
-        types,
-        range,
-        buf,
-        p1,
-    );
-    let p3 = put_section(
-        &file[..kvars],
-        functions,
-        Section::Functions,
-        types,
-        range,
-        buf,
-        p2,
-    );
-    put_section(
-        &file[..constraint],
-        kvars,
-        Section::KVars,
-        types,
-        range,
-        buf,
-        p3,
-    )
+    let p1 = put_items(file, b, Section::Datatypes, range, buf, p);
+    let p2 = put_items(file, b, Section::Constants, range, buf, p1);
+    let p3 = put_items(file, b, Section::Functions, range, buf, p2);
+    put_items(file, b, Section::KVars, range, buf, p3)
 }
 
 // The assertions, each as a part.

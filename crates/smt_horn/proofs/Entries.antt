@@ -1,19 +1,19 @@
 -- What the steps of the three calls add up to.
 use mathlib.Core.Path.{_≡_, refl, sym, ap, _∙_}
 use mathlib.Core.Bool.{Bool, true, false, cond}
-use mathlib.Core.List.{List, [], _∷_, _++_, append-nil}
-use Prim.Native.Nat.{ℕ, zero, suc, _+_, _-_, _^_, _≤_, _<_, min, max}
+use mathlib.Core.List.{List, [], _∷_, append-nil}
+use Prim.Native.Nat.{ℕ, zero, suc, _+_, _-_, _≤_, _<_, max}
 use native.Mathlib.Omega.{arith}
 use mir.Val.{Fits}
 use mir.Syntax.{w8}
-use lib.Dec.{leb, ltb, eqb}
-use lib.ListN.{length, drop, getD, length-append}
+use lib.Dec.{leb, ltb}
+use lib.ListN.{length, getD, length-append}
 use lib.Seq.{sets}
 use borrow.Author.Tests.{le-leb, lt-leb, lt-ltb, le-ltb}
 use Rattle.smtlib.proofs.Bools.{clash}
 use Rattle.task.specs.Ast.{Task}
 use Rattle.task.specs.Decode.{Res, got, refuse}
-use Rattle.task.specs.Task.{bound, taskOf, declarations, headsOf}
+use Rattle.task.specs.Task.{taskOf, declarations, headsOf}
 use Rattle.inspect.specs.declared.Bounds.{Bounds}
 use Rattle.inspect.specs.declared.Inspected.{Inspected}
 use Rattle.inspect.specs.declared.Inspected.the-variants as inspected-is
@@ -21,7 +21,7 @@ use Rattle.inspect.specs.Inspect.{boundsOf, inspectedOf}
 use Rattle.inspect.specs.Walk.{Inside}
 use Rattle.horn_text.specs.Clauses.{clausesOf}
 use Rattle.horn_text.specs.Script.{join, partsOf, scriptOf, longest}
-use Rattle.horn_text.specs.Answers.{Answer, values, refused, surveyOf, surveyAnswer, fitted, laid, partOf, partAnswer, partLaid, partBuffer, scriptFitted, scriptAnswer, scriptLaid, scriptBuffer}
+use Rattle.horn_text.specs.Answers.{surveyAnswer, partAnswer, partBuffer, scriptAnswer, scriptBuffer}
 use Rattle.horn_text.specs.Demand.{Bytes, Promised}
 use Rattle.horn_text.proofs.Places.{clauses-number}
 use Rattle.horn_text.proofs.Lengths.{script-short}
@@ -34,9 +34,7 @@ use Rattle.flatten.specs.declared.Progress.{Progress}
 use Rattle.flatten.specs.Parts.{Writing, writing, up, has, place, pass, put, puts, chosen}
 use Rattle.flatten.proofs.Totals.{totals, chosen-all, chosen-one, sets-laid}
 use Rattle.parts.specs.Whole.{fresh, PutsScript, Measured, Accepted}
-use Rattle.smt_horn.specs.declared.Surveyed.{Surveyed}
 use Rattle.smt_horn.specs.declared.Surveyed.the-variants as survey-is
-use Rattle.smt_horn.specs.declared.Written.{Written}
 use Rattle.smt_horn.specs.declared.Written.the-variants as written-is
 use Rattle.smt_horn.specs.Calls.{surveyed, written}
 

@@ -1,13 +1,12 @@
 -- What decodes with some levels left decodes alike with more: `deeper`.
 use Prim.Native.Nat.{ℕ, zero, suc, _≤_}
-use mathlib.Core.Path.{_≡_, sym, _∙_, ap}
+use mathlib.Core.Path.{sym, _∙_, ap}
 use mathlib.Core.Bool.{Bool, true, false}
 use mathlib.Core.List.{List, [], _∷_}
-use native.Mathlib.Omega.{arith}
 use native.Mathlib.Nat.{le-of-suc-le-suc, not-suc-le-zero}
 use lib.ListN.{getD}
 use Rattle.task.specs.Ast.{Sorts, Exprs}
-use Rattle.task.specs.Decode.{Res, got, bind, Decoder, refusal, _▹_, number, many, counted, name, coded, flag, sortForms, decSort, binder, binOps, binRels, quantifiers, given, exprForms, decExpr, decPred}
+use Rattle.task.specs.Decode.{Res, bind, Decoder, refusal, _▹_, number, many, counted, name, coded, flag, sortForms, decSort, binder, binOps, binRels, quantifiers, given, exprForms, decExpr, decPred}
 use Rattle.task.specs.Laws.{Agrees, Deeper}
 use Rattle.task.proofs.Reading.{bind-got, got-refuse}
 
@@ -93,4 +92,4 @@ preds (suc l) (suc m) h =
     codes ((alike name ⟫ λ k. counts Exprs.none Exprs.more e ⟫ λ es. same) ∣ (e ⟫ λ a. same) ∣ none)
 
 pub deeper : Deeper
-deeper = record { sorts = sorts; preds = preds }
+deeper = record { binders = binders; preds = λ l m h. row [] _∷_ (preds l m h) }

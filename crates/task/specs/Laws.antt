@@ -1,11 +1,11 @@
 -- What the writers will need of faults and sections.
 use Prim.Native.Nat.{ℕ, zero, suc, _<_, _≤_}
 use mathlib.Core.Path.{_≡_}
-use mathlib.Core.List.{List}
+use mathlib.Core.List.{List, [], _∷_}
 use lib.ListN.{length, getD}
 use Rattle.task.specs.declared.Fault.{Fault}
 use Rattle.task.specs.declared.Fault.the-variants.{Sound}
-use Rattle.task.specs.Decode.{got, Decoder, _▹_, decSort, decPred, section}
+use Rattle.task.specs.Decode.{got, Decoder, _▹_, many, binder, decPred, section}
 use Rattle.task.specs.Fault.{lower}
 use Rattle.task.specs.Covers.{CoversSome}
 
@@ -34,7 +34,7 @@ pub record SectionWalks : Type 1 where
 pub record Agrees {A : Type 0} (d e : Decoder A) : Type 0 where
   pub agrees : (s : List ℕ) (at : ℕ) (a : A) (p : ℕ) → d s at ≡ got a p → e s at ≡ got a p
 
--- What decodes with some levels left decodes alike with more. (proofs/Levels.antt: deeper)
+-- What a ForAll has decodes alike with more levels left. (proofs/Levels.antt: deeper)
 pub record Deeper : Type 0 where
-  pub sorts : (l m : ℕ) → l ≤ m → Agrees (decSort l) (decSort m)
-  pub preds : (l m : ℕ) → l ≤ m → Agrees (decPred l) (decPred m)
+  pub binders : (l m : ℕ) → l ≤ m → Agrees (binder l) (binder m)
+  pub preds : (l m : ℕ) → l ≤ m → (n : ℕ) → Agrees (many [] _∷_ (decPred l) n) (many [] _∷_ (decPred m) n)

@@ -1,6 +1,5 @@
 -- `count_guards`: each turn counts the guards of one of the ForAlls that are left; at 2 no more are counted.
 use borrow.Author.Needs.{needs}
-use mathlib.Core.Path.{_≡_}
 use Prim.Native.Nat.{_-_, _≤_}
 use lib.ListN.{length}
 use Rattle.assertion.proofs.Guards.{sized, all-steps, Along, along-start, along-more, along-end, along-full, counts-runs, runs-counts, for-all-zero}

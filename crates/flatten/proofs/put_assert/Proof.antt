@@ -12,6 +12,9 @@ has-requires c κs = search needs
 least-requires : tie.Need-least-requires
 least-requires c κs = search needs
 
+new-requires : tie.Need-new-requires
+new-requires c κs = search needs
+
 sub-write-assert : tie.Need-sub-write-assert
 sub-write-assert c = search needs
 
@@ -20,9 +23,6 @@ part-write-assert-start c = search needs
 
 part-write-assert-end : tie.Need-part-write-assert-end
 part-write-assert-end c = search needs
-
-new-requires : tie.Need-new-requires
-new-requires c κs = search needs
 
 write-assert-requires : tie.Need-write-assert-requires
 write-assert-requires c κs = search needs
@@ -34,7 +34,7 @@ same-length : tie.Need-same-length
 same-length c = search needs
 
 returns : tie.Need-returns
-returns c = assert-in _ _ _ _ _ _ _ _ _ _ _ _ (sym (c .before .before .before .before .before .before .before .before .before .has .ensures) ∙ c .before .before .before .before .before .before .before .before .if1 .taken) (c .before .before .before .before .before .before .before .least .ensures) (c .before .before .before .before .before .new .ensures) (omega arith) (c .before .before .before .before .write-assert .ensures) (c .placed .ensures)
+returns c = assert-in _ _ _ _ _ _ _ _ _ _ _ _ (sym (c .before .before .before .before .before .before .before .before .before .has .ensures) ∙ c .before .before .before .before .before .before .before .before .if1 .taken) (c .before .before .before .before .before .before .before .least .ensures) (c .before .before .before .before .before .before .new .ensures) (omega arith) (c .before .before .before .before .write-assert .ensures) (c .placed .ensures)
 
 check-pred-requires : tie.Need-check-pred-requires
 check-pred-requires c κs = search needs
@@ -60,10 +60,10 @@ put-assert-spec =
     (tie.spec
     has-requires
     least-requires
+    new-requires
     sub-write-assert
     part-write-assert-start
     part-write-assert-end
-    new-requires
     write-assert-requires
     placed-requires
     same-length

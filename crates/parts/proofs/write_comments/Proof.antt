@@ -3,7 +3,6 @@ use borrow.Author.Needs.{needs}
 use mathlib.Core.Path.{_≡_, refl}
 use Prim.Native.Nat.{_-_}
 use lib.ListN.{length}
-use Rattle.task.specs.Covers.{EachCovers}
 use Rattle.task.specs.Decode.{comment}
 use Rattle.task.proofs.Pieces.{each-covers}
 use Rattle.output.specs.Emit.{output, Sends}
