@@ -1,21 +1,24 @@
 -- What the loops over a path and over predicates add up to: binders and guards that are sent, guards that are counted.
 use mathlib.Core.Path.{_≡_, refl, sym, ap, _∙_, subst}
-use mathlib.Core.Bool.{Bool, true, false, cond}
+use mathlib.Core.Bool.{Bool, true, false, cond, _&&_}
 use mathlib.Core.List.{List, [], _∷_, _++_, map, append-assoc}
 use Prim.Native.Nat.{ℕ, zero, suc, _+_, _-_, _<_, _≤_, min}
 use native.Mathlib.Numerals.{add-one}
 use native.Mathlib.Omega.{arith}
+use lib.Dec.{leb, eqb}
 use lib.ListN.{length, length-map, take, drop, getD, drop-of-length-le}
 use lib.Seq.{length-take-le, drop-cons, getD-take}
+use borrow.Author.Tests.{le-leb, lt-leb, leb-true, eqb-true, ne-eqb}
 use Rattle.task.specs.declared.Fault.{Fault}
 use Rattle.task.specs.declared.Number.{Number}
 use Rattle.task.specs.declared.Number.the-variants as number-is
-use Rattle.task.specs.Ast.{Pred}
-use Rattle.task.specs.Decode.{Res, got, refuse, number, many, counted, binder, decPred, deepest}
+use Rattle.task.specs.Ast.{Constant, Expr, Pred}
+use Rattle.task.specs.Decode.{Res, got, refuse, number, many, counted, binder, decPred, deepest, flags, exprForms, decExpr, predForms}
 use Rattle.task.specs.Fault.{binderFault, predFault}
 use Rattle.task.specs.Task.{literallyTrue}
 use Rattle.task.specs.Node.{numberOf}
-use Rattle.task.proofs.Reading.{bind-got, got-refuse}
+use Rattle.smtlib.proofs.Bools.{clash}
+use Rattle.task.proofs.Reading.{bind-got, got-refuse, coded-at}
 use Rattle.task_check.specs.declared.Walked.{Walked}
 use Rattle.task_check.specs.declared.Walked.the-variants as walked-is
 use Rattle.task_check.specs.Walk.{walked, readTrue}
@@ -26,8 +29,8 @@ use Rattle.horn_text.specs.Clauses.{ForAll, kept, guardsOf}
 use Rattle.horn_text.specs.Script.{write-preds}
 use Rattle.output.specs.Emit.{Output, emit, emits, Runs, Sends}
 use Rattle.output.proofs.Sent.{emits-append}
-use Rattle.output.proofs.Sending.{runs-refused, Steps, Owing, owing-start, owing-more, owing-end}
-use Rattle.assertion.specs.Under.{forAllAt, onPath, varsText, keptText, ownText, guardsText, count, counts, countOwn, countAll, Counts}
+use Rattle.output.proofs.Sending.{runs-refused, runs-end, sends-end, Steps, Owing, owing-start, owing-more, owing-end}
+use Rattle.assertion.specs.Under.{forAllAt, onPath, varsText, keptText, ownText, guardsText, count, counts, countOwn, countAll, Counts, Passes, trueAt}
 
 -- PATHS
 
@@ -89,6 +92,65 @@ module _ {W : Type 0} {one : W → Pred → W} {all : W → List Pred → W} (st
       let whole = many [] _∷_ (decPred deepest) m s at in
       let gone : Owing steps whole first (refuse k) w = rw u at l in
       owing-end steps whole first r w' (owing-more steps whole first (refuse k) (λ q. got [] r) w w' 0 gone (runs-refused one w w' 0 k))
+
+-- BOOLEAN TRUE
+
+-- the test of its three bytes, as the code goes through it
+module _ (s : List ℕ) (at : ℕ) where
+  pub true-short : length s < at + 3 → false ≡ trueAt s at
+  true-short h = rw (lt-leb (at + 3) (length s) h)
+
+  module _ (h : at + 3 ≤ length s) where
+    pub true-first : (getD s at 0 ≡ 1 → ⊥) → false ≡ trueAt s at
+    true-first n = rw (le-leb (at + 3) (length s) h, ne-eqb (getD s at 0) 1 n)
+
+    module _ (e : getD s at 0 ≡ 1) where
+      pub true-second : (getD s (at + 1) 0 ≡ 1 → ⊥) → false ≡ trueAt s at
+      true-second n = rw (le-leb (at + 3) (length s) h, e, ne-eqb (getD s (at + 1) 0) 1 n)
+
+      pub true-third : getD s (at + 1) 0 ≡ 1 → eqb (getD s (at + 2) 0) 1 ≡ trueAt s at
+      true-third e' = rw (le-leb (at + 3) (length s) h, e, e')
+
+-- they are decoded to it
+true-decoded : (s : List ℕ) (at : ℕ) (a b c d : Bool) → leb (at + 3) (length s) ≡ a → eqb (getD s at 0) 1 ≡ b → eqb (getD s (at + 1) 0) 1 ≡ c → eqb (getD s (at + 2) 0) 1 ≡ d
+    → (a && b && c && d) ≡ true → decPred deepest s at ≡ got (Pred.expr (Expr.constant (Constant.boolean true))) (at + 3)
+unfolding decPred decExpr exprForms
+true-decoded s at true true true true ea eb ec ed t =
+    let l : at + 3 ≤ length s = leb-true (at + 3) (length s) ea in
+    let i : at + 1 + 1 ≡ at + 2 = omega arith in
+    let j : at + 2 + 1 ≡ at + 3 = omega arith in
+    rw (
+      coded-at (predForms (decExpr 255)) s at 1 (omega arith) (eqb-true (getD s at 0) 1 eb),
+      coded-at (exprForms 254 (decExpr 254)) s (at + 1) 1 (omega arith) (eqb-true (getD s (at + 1) 0) 1 ec),
+      i,
+      coded-at flags s (at + 2) 1 (omega arith) (eqb-true (getD s (at + 2) 0) 1 ed),
+      j,
+    )
+true-decoded s at false b c d ea eb ec ed t = clash (cc)
+true-decoded s at true false c d ea eb ec ed t = clash (cc)
+true-decoded s at true true false d ea eb ec ed t = clash (cc)
+true-decoded s at true true true false ea eb ec ed t = clash (cc)
+
+-- they lie in the section
+in-section : (a b : Bool) → (a && b) ≡ true → a ≡ true
+in-section true b h = refl
+in-section false b h = h
+
+module _ (s : List ℕ) (at : ℕ) (t : Bool) (e : t ≡ trueAt s at) (h : t ≡ true) where
+  pub true-room : at + 3 ≤ length s
+  true-room = leb-true (at + 3) (length s) (in-section _ _ (in-section _ _ (in-section _ _ (sym e ∙ h))))
+
+  stands : decPred deepest s at ≡ got (Pred.expr (Expr.constant (Constant.boolean true))) (at + 3)
+  stands = true-decoded s at _ _ _ _ refl refl refl refl (sym e ∙ h)
+
+  -- so it is passed over: nothing is sent for it, and it is not counted
+  pub true-sends : (enc : Encoder) (o : Output) → Sends (λ p. keptText enc (p ∷ [])) (decPred deepest s at) o o (at + 3)
+  unfolding keptText literallyTrue emits
+  true-sends enc o = rw stands (sends-end (λ p. keptText enc (p ∷ [])) o o (at + 3) (Pred.expr (Expr.constant (Constant.boolean true))) (at + 3) refl refl)
+
+  pub true-passed : (n : ℕ) → Passes count (decPred deepest s at) n n (at + 3)
+  unfolding Passes literallyTrue
+  true-passed n = rw stands (runs-end count n n (at + 3) (Pred.expr (Expr.constant (Constant.boolean true))) (at + 3) refl refl)
 
 -- A PREDICATE
 
@@ -255,11 +317,20 @@ module _ (x : Res Pred) (t : Bool) (n : ℕ) (e : t ≡ readTrue x) where
   count-other r h g p q e' = g ∙ rw (sym (e ∙ ap readTrue e') ∙ h)
 
 -- where a walker ended there the piece was run
-pub count-runs : (x : Res Pred) (v : Walked) (q : ℕ) (f : Fault) (n r : ℕ) → v ≡ walked predFault x → v ≡ walked-is.Next q f → Counts count x n r → Runs count x n r q
+count-runs : (x : Res Pred) (v : Walked) (q : ℕ) (f : Fault) (n r : ℕ) → v ≡ walked predFault x → v ≡ walked-is.Next q f → Counts count x n r → Runs count x n r q
 unfolding Counts
 count-runs x v q f n r e e' u p z g =
     let y : walked-is.Next q f ≡ walked-is.Next z (predFault p) = sym e' ∙ e ∙ ap (walked predFault) g in
     (cc, u p z g)
+
+-- a predicate is passed with or without being counted
+pub count-passed : (x : Res Pred) (v : Walked) (q : ℕ) (f : Fault) (n r : ℕ) → v ≡ walked predFault x → v ≡ walked-is.Next q f → Counts count x n r → Passes count x n r q
+unfolding Passes
+count-passed x v q f n r e e' u = count-runs x v q f n r e e' u
+
+pub count-refused : (x : Res Pred) (v : Walked) (n r at k : ℕ) → v ≡ walked predFault x → v ≡ walked-is.Refused k → Passes count x n r at
+unfolding Passes
+count-refused x v n r at k e e' = walk-refused count predFault x v n r at k e e'
 
 -- the number alone
 pub runs-counts : {A : Type 0} (run : ℕ → A → ℕ) (x : Res A) (n r p : ℕ) → Runs run x n r p → Counts run x n r

@@ -1,9 +1,11 @@
 -- What stands at the offsets of a path, and what the writers of an assertion send for it.
 use Prim.Native.Nat.{ℕ, _+_, min}
 use Prim.Native.Char.{code}
-use mathlib.Core.Bool.{cond}
+use mathlib.Core.Bool.{Bool, cond, _&&_}
 use mathlib.Core.List.{List, [], _∷_}
 use mathlib.Core.Path.{_≡_}
+use lib.Dec.{leb, eqb}
+use lib.ListN.{length, getD}
 use Rattle.task.specs.Ast.{Expr, Pred}
 use Rattle.task.specs.Decode.{Res, got, bind, counted, binder, decPred, deepest}
 use Rattle.task.specs.Task.{literallyTrue}
@@ -12,7 +14,7 @@ use Rattle.smt_text.specs.Encoder.{Encoder}
 use Rattle.smt_text.specs.Text.{spaced, write-unary, write-binary, write-binders, write-expr, write-pred}
 use Rattle.horn_text.specs.Clauses.{ForAll, kept, bindersOf, guardsOf, clauseOf}
 use Rattle.horn_text.specs.Script.{join, write-preds, write-guard-conjunction, write-negation, write-implication, write-assert}
-use Rattle.output.specs.Emit.{Output, Sends}
+use Rattle.output.specs.Emit.{Output, Runs, Sends}
 
 -- the ForAll whose name stands at an offset; where it ends does not matter
 unfoldable pub forAllAt : List ℕ → ℕ → Res ForAll
@@ -61,6 +63,14 @@ countAll n (f ∷ fs) = countAll (countOwn n f) fs
 -- Where a piece was decoded, it was run: where it ends does not matter.
 unfoldable pub Counts : {A : Type 0} → (ℕ → A → ℕ) → Res A → ℕ → ℕ → Type 0
 Counts {A} run d n r = (a : A) (p : ℕ) → d ≡ got a p → r ≡ run n a
+
+-- Where a piece was decoded, the walker ended behind it and it was run.
+unfoldable pub Passes : {A : Type 0} → (ℕ → A → ℕ) → Res A → ℕ → ℕ → ℕ → Type 0
+Passes run d n r at = Runs run d n r at
+
+-- the bytes of Boolean true as a predicate
+abbrev pub trueAt : List ℕ → ℕ → Bool
+trueAt s at = leb (at + 3) (length s) && eqb (getD s at 0) 1 && eqb (getD s (at + 1) 0) 1 && eqb (getD s (at + 2) 0) 1
 
 -- the guards of a path before a KVar head, a space before them
 unfoldable pub conjunctionText : Encoder → List ForAll → List ℕ

@@ -14,7 +14,13 @@ ghost use Rattle.task.specs.Decode.{many, decExpr, decPred, deepest};
 ghost use Rattle.constraint_check.specs.Around.{entries};
 ghost use Rattle.output.specs.Emit.{output, Sends};
 ghost use Rattle.smt_sort.specs.Section.{encoderIn};
-ghost use Rattle.assertion.specs.Under.{forAllAt, onPath, varsText, keptText, ownText, guardsText, count, counts, countOwn, countAll, Counts, conjunctionText, negationText, kvarText, exprText, implicationText, assertText, HeadSends};
+ghost use Rattle.assertion.specs.Under.{forAllAt, onPath, varsText, keptText, ownText, guardsText, count, counts, countOwn, countAll, Counts, Passes, trueAt, conjunctionText, negationText, kvarText, exprText, implicationText, assertText, HeadSends};
+
+// Where a predicate ends, and the number of guards then.
+pub struct Tally {
+    pub at: usize,
+    pub count: u64,
+}
 
 // Sends the binders of the path, without a space between two.
 fn write_vars(s: &[u8], path: Path, types: Datatypes, buf: &mut [u8], out: Out) -> Out
@@ -34,10 +40,32 @@ fn write_vars(s: &[u8], path: Path, types: Datatypes, buf: &mut [u8], out: Out) 
     sent
 }
 
+// Whether the three bytes of Boolean true as a predicate stand at a position.
+fn is_true_at(s: &[u8], at: usize) -> bool
+    ensures { λ r. ⌜ r ≡ trueAt (now (s .entry)) at ⌝ }
+{
+    if s.len() < 3 {
+        return false;
+    }
+    if s.len() - 3 < at {
+        return false;
+    }
+    if s[at] != 1 {
+        return false;
+    }
+    if s[at + 1] != 1 {
+        return false;
+    }
+    s[at + 2] == 1
+}
+
 // Sends the predicate at a position with a space before it, unless it is literally true.
 fn write_guard(s: &[u8], at: usize, types: Datatypes, buf: &mut [u8], out: Out) -> Sent
     ensures { λ r. ⌜ Sends (λ p. keptText (encoderIn (now (s .entry)) types) (p ∷ [])) (decPred deepest (now (s .entry)) at) (output (now (buf .entry)) (out .len)) (output (now (buf .exit)) (r .out .len)) (r .at) ⌝ }
 {
+    if is_true_at(s, at) {
+        return Sent { at: at + 3, out };
+    }
     if task_check::is_literally_true(s, at, 256) {
         let walked = task_check::check_pred(s, at, 256);
         let Walked::Next(p, _) = walked else {
@@ -109,13 +137,26 @@ fn one_more(n: u64) -> u64
 }
 
 // Counts the predicate at a position unless it is literally true, up to 2.
-fn count_guard(s: &[u8], at: usize, have: u64) -> u64
-    ensures { λ r. ⌜ Counts count (decPred deepest (now (s .entry)) at) have r ⌝ }
+fn count_guard(s: &[u8], at: usize, have: u64) -> Tally
+    ensures { λ r. ⌜ Passes count (decPred deepest (now (s .entry)) at) have (r .count) (r .at) ⌝ }
 {
-    if task_check::is_literally_true(s, at, 256) {
-        return have;
+    if is_true_at(s, at) {
+        return Tally {
+            at: at + 3,
+            count: have,
+        };
     }
-    one_more(have)
+    let walked = task_check::check_pred(s, at, 256);
+    let Walked::Next(q, _) = walked else {
+        return Tally { at, count: have };
+    };
+    if task_check::is_literally_true(s, at, 256) {
+        return Tally { at: q, count: have };
+    }
+    Tally {
+        at: q,
+        count: one_more(have),
+    }
 }
 
 // Counts those of n predicates that are not literally true, up to 2.
@@ -126,12 +167,9 @@ fn count_kept(s: &[u8], at: usize, n: u64, have: u64) -> u64
     let mut left = n;
     let mut sum = have;
     while 0 < left {
-        let walked = task_check::check_pred(s, p, 256);
-        let Walked::Next(q, _) = walked else {
-            return sum;
-        };
-        sum = count_guard(s, p, sum);
-        p = q;
+        let one = count_guard(s, p, sum);
+        p = one.at;
+        sum = one.count;
         left -= 1;
     }
     sum
