@@ -13,7 +13,7 @@ use Rattle.task.specs.declared.Fault.{Fault}
 use Rattle.task.specs.declared.Number.{Number}
 use Rattle.task.specs.declared.Number.the-variants as number-is
 use Rattle.task.specs.Ast.{Constant, Expr, Pred}
-use Rattle.task.specs.Decode.{Res, got, refuse, number, many, counted, binder, decPred, deepest, flags, exprForms, decExpr, predForms}
+use Rattle.task.specs.Decode.{Res, got, number, many, counted, binder, decPred, deepest, flags, exprForms, decExpr, predForms}
 use Rattle.task.specs.Fault.{binderFault, predFault}
 use Rattle.task.specs.Task.{literallyTrue}
 use Rattle.task.specs.Node.{numberOf}
@@ -84,14 +84,6 @@ module _ {W : Type 0} {one : W → Pred → W} {all : W → List Pred → W} (st
   through-end n p w h l =
       let en : n ≡ 0 = omega arith in
       owing-end steps (many [] _∷_ (decPred deepest) m s at) first p w (rw en at l)
-
-  pub through-refused : (n p : ℕ) (w w' : W) (r k : ℕ) → 0 < n → Through n p w → decPred deepest s p ≡ refuse k → Runs all (many [] _∷_ (decPred deepest) m s at) first w' r
-  unfolding Through
-  through-refused zero p w w' r k h l u = absurd (omega arith)
-  through-refused (suc n) p w w' r k h l u =
-      let whole = many [] _∷_ (decPred deepest) m s at in
-      let gone : Owing steps whole first (refuse k) w = rw u at l in
-      owing-end steps whole first r w' (owing-more steps whole first (refuse k) (λ q. got [] r) w w' 0 gone (runs-refused one w w' 0 k))
 
 -- BOOLEAN TRUE
 
@@ -316,17 +308,12 @@ module _ (x : Res Pred) (t : Bool) (n : ℕ) (e : t ≡ readTrue x) where
   unfolding Counts
   count-other r h g p q e' = g ∙ rw (sym (e ∙ ap readTrue e') ∙ h)
 
--- where a walker ended there the piece was run
-count-runs : (x : Res Pred) (v : Walked) (q : ℕ) (f : Fault) (n r : ℕ) → v ≡ walked predFault x → v ≡ walked-is.Next q f → Counts count x n r → Runs count x n r q
-unfolding Counts
-count-runs x v q f n r e e' u p z g =
+-- a predicate is passed, counted or not: the walker ended behind it
+pub count-passed : (x : Res Pred) (v : Walked) (q : ℕ) (f : Fault) (n r : ℕ) → v ≡ walked predFault x → v ≡ walked-is.Next q f → Counts count x n r → Passes count x n r q
+unfolding Passes Counts
+count-passed x v q f n r e e' u p z g =
     let y : walked-is.Next q f ≡ walked-is.Next z (predFault p) = sym e' ∙ e ∙ ap (walked predFault) g in
     (cc, u p z g)
-
--- a predicate is passed with or without being counted
-pub count-passed : (x : Res Pred) (v : Walked) (q : ℕ) (f : Fault) (n r : ℕ) → v ≡ walked predFault x → v ≡ walked-is.Next q f → Counts count x n r → Passes count x n r q
-unfolding Passes
-count-passed x v q f n r e e' u = count-runs x v q f n r e e' u
 
 pub count-refused : (x : Res Pred) (v : Walked) (n r at k : ℕ) → v ≡ walked predFault x → v ≡ walked-is.Refused k → Passes count x n r at
 unfolding Passes
