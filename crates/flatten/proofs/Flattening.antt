@@ -27,13 +27,13 @@ use Rattle.smt_text.specs.Encoder.{Encoder}
 use Rattle.horn_text.specs.Clauses.{ForAll, bindersOf, guardsOf, flatten-constraint, flatten-constraints}
 use Rattle.horn_text.specs.Script.{write-assert, write-asserts}
 use Rattle.horn_text.proofs.Places.{binders-snoc, guards-snoc}
-use Rattle.output.specs.Emit.{output, most, Sends}
+use Rattle.output.specs.Emit.{output, most}
 use Rattle.output.proofs.Sending.{runs-refused, runs-end, runs-then, Steps, Owing, owing-start, owing-more, owing-end}
 use Rattle.assertion.specs.Under.{forAllAt, onPath, assertText, HeadSends}
 use Rattle.flatten.specs.declared.Range.{Range}
 use Rattle.flatten.specs.declared.Progress.{Progress}
 use Rattle.flatten.specs.Parts.{Writing, writing, has, placed, passed, put, puts, Puts, PutsUnder, assertPart, headParts, clauseParts, memberParts}
-use Rattle.flatten.proofs.Lending.{put-in, put-out, puts-append}
+use Rattle.flatten.proofs.Lending.{part-in, put-out, puts-append}
 
 -- HEADS
 
@@ -48,10 +48,8 @@ module _ (enc : Encoder) (r : Range) (path : Res (List ForAll)) (d : Res Pred) (
   pub assert-in : (p' : Progress) (ys : List ℕ) (start z n at : ℕ) → has r (p .seen) ≡ true → start ≡ min (p .len) (length xs) → z ≡ 0 → length xs ≤ most
       → HeadSends (assertText enc) path d (output (take (length xs - start) (drop start xs)) z) (output ys n) at → p' ≡ placed p n
       → PutsUnder (assertPart enc) r path d (writing p xs) (writing p' (take start xs ++ (ys ++ drop (length xs - start) (drop start xs)))) at
-  unfolding PutsUnder Puts HeadSends Sends assertPart puts
-  assert-in p' ys start z n at h e e0 m w e' fs q g a t f =
-      let v = w fs q g a t f in
-      (v .0, put-in r p p' xs (assertText enc fs a) ys start z n h e e0 m (v .1) e')
+  unfolding PutsUnder HeadSends assertPart
+  assert-in p' ys start z n at h e e0 m w e' fs q g = part-in (assertText enc fs) r p p' xs d ys start z n at h e e0 m (w fs q g) e'
 
   module _ (v : Walked) (e : v ≡ walked predFault d) where
     -- one that is not

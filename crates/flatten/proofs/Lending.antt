@@ -10,12 +10,13 @@ use lib.Dec.{ltb}
 use lib.ListN.{length, set, take, drop, take-append-drop, drop-of-length-le, length-take, length-drop}
 use lib.Seq.{sets, take-all, take-set-le, drop-set-add}
 use borrow.Author.Tests.{le-leb, lt-leb}
+use Rattle.task.specs.Decode.{Res}
 use Rattle.task.proofs.Reading.{le-or-lt}
-use Rattle.output.specs.Emit.{Output, output, most, emits}
+use Rattle.output.specs.Emit.{Output, output, most, emits, Sends}
 use Rattle.output.proofs.Sent.{emits-sets}
 use Rattle.flatten.specs.declared.Range.{Range}
 use Rattle.flatten.specs.declared.Progress.{Progress}
-use Rattle.flatten.specs.Parts.{Writing, writing, up, has, placed, passed, place, pass, put, puts}
+use Rattle.flatten.specs.Parts.{Writing, writing, up, has, placed, passed, place, pass, put, puts, Puts}
 
 -- a text stored behind the first n places
 behind : (t xs : List ℕ) (n i : ℕ) → take n xs ++ sets (drop n xs) i t ≡ sets xs (n + i) t
@@ -69,6 +70,16 @@ module _ (r : Range) (p p' : Progress) (xs t : List ℕ) where
   pub put-out : has r (p .seen) ≡ false → p' ≡ passed p → writing p' xs ≡ put r (writing p xs) t
   unfolding put pass
   put-out h e = rw (h, e)
+
+-- a decoded part in the range: its text was sent to what was lent
+module _ {A : Type 0} (text : A → List ℕ) (r : Range) (p p' : Progress) (xs : List ℕ) (d : Res A) where
+  pub part-in : (ys : List ℕ) (start z n at : ℕ) → has r (p .seen) ≡ true → start ≡ min (p .len) (length xs) → z ≡ 0 → length xs ≤ most
+      → Sends text d (output (take (length xs - start) (drop start xs)) z) (output ys n) at → p' ≡ placed p n
+      → Puts (λ a. text a ∷ []) r d (writing p xs) (writing p' (take start xs ++ (ys ++ drop (length xs - start) (drop start xs)))) at
+  unfolding Puts Sends puts
+  part-in ys start z n at h e e0 m w e' a q g =
+      let v = w a q g in
+      (v .0, put-in r p p' xs (text a) ys start z n h e e0 m (v .1) e')
 
 -- parts one behind the other
 pub puts-append : (r : Range) (w : Writing) (us vs : List (List ℕ)) → puts r w (us ++ vs) ≡ puts r (puts r w us) vs

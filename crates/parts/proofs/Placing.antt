@@ -1,10 +1,10 @@
 -- What the steps of putting parts add up to: fixed texts, the opening, the items of a section.
 use mathlib.Core.Path.{_≡_, refl, sym, ap, _∙_}
-use mathlib.Core.Bool.{true, false}
+use mathlib.Core.Bool.{false}
 use mathlib.Core.List.{List, [], _∷_, _++_, map, nil≢cons}
-use Prim.Native.Nat.{ℕ, zero, suc, _+_, _-_, _<_, _≤_, min}
+use Prim.Native.Nat.{ℕ, zero, suc, _+_, _-_, _<_, _≤_}
 use native.Mathlib.Omega.{arith}
-use lib.ListN.{length, take, drop}
+use lib.ListN.{length}
 use borrow.Author.Tests.{le-leb, lt-leb}
 use Rattle.smtlib.specs.Lexicon.{bytes}
 use Rattle.task.specs.declared.Fault.{Fault}
@@ -27,28 +27,19 @@ use Rattle.item_check.specs.Items.{itemWalk}
 use Rattle.smt_text.specs.Encoder.{Encoder}
 use Rattle.smt_text.specs.Text.{write-datatype-decl, write-const-decl, write-fun-def, write-kvar-decl}
 use Rattle.horn_text.specs.Script.{join, write-comment, opening}
-use Rattle.output.specs.Emit.{Output, output, most, emit, emits, Sends}
+use Rattle.output.specs.Emit.{Output, emit, emits, Sends}
 use Rattle.output.proofs.Sent.{emits-append}
 use Rattle.output.proofs.Sending.{sends-refused, sends-end, sends-map, Steps}
 use Rattle.flatten.specs.declared.Range.{Range}
 use Rattle.flatten.specs.declared.Progress.{Progress}
-use Rattle.flatten.specs.Parts.{Writing, writing, has, placed, passed, puts, Puts}
-use Rattle.flatten.proofs.Lending.{put-in, put-out}
+use Rattle.flatten.specs.Parts.{Writing, writing, has, passed, puts, Puts}
+use Rattle.flatten.proofs.Lending.{put-out}
 use Rattle.flatten.proofs.Sections.{covers-map}
 use Rattle.parts.specs.Whole.{itemText, itself, alone, commentLines, PutsAll}
 
 -- A PART
 
 module _ {A : Type 0} (text : A → List ℕ) (r : Range) (p p' : Progress) (xs : List ℕ) (d : Res A) where
-  -- in the range: its text was sent to what was lent
-  pub part-in : (ys : List ℕ) (start z n at : ℕ) → has r (p .seen) ≡ true → start ≡ min (p .len) (length xs) → z ≡ 0 → length xs ≤ most
-      → Sends text d (output (take (length xs - start) (drop start xs)) z) (output ys n) at → p' ≡ placed p n
-      → Puts (λ a. text a ∷ []) r d (writing p xs) (writing p' (take start xs ++ (ys ++ drop (length xs - start) (drop start xs)))) at
-  unfolding Puts Sends puts
-  part-in ys start z n at h e e0 m w e' a q g =
-      let v = w a q g in
-      (v .0, put-in r p p' xs (text a) ys start z n h e e0 m (v .1) e')
-
   -- not in the range
   pub part-out : has r (p .seen) ≡ false → p' ≡ passed p → PutsAll (λ a. text a ∷ []) r d (writing p xs) (writing p' xs)
   unfolding PutsAll puts

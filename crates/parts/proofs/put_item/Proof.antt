@@ -2,7 +2,8 @@
 use mathlib.Core.Path.{sym, _∙_}
 use native.Mathlib.Omega.{arith}
 use Rattle.parts.specs.Whole.{itself}
-use Rattle.parts.proofs.Placing.{part-in, item-out, item-refused}
+use Rattle.flatten.proofs.Lending.{part-in}
+use Rattle.parts.proofs.Placing.{item-out, item-refused}
 use borrow.Author.Needs.{needs}
 use Rattle.parts.proofs.put_item.Statement.{statement}
 use Rattle.parts.proofs.put_item.Tie as tie

@@ -3,7 +3,8 @@ use mathlib.Core.Path.{sym, _∙_}
 use native.Mathlib.Omega.{arith}
 use Rattle.horn_text.specs.Script.{opening}
 use Rattle.parts.specs.Whole.{openingPart}
-use Rattle.parts.proofs.Placing.{part-in, part-out, all-of}
+use Rattle.flatten.proofs.Lending.{part-in}
+use Rattle.parts.proofs.Placing.{part-out, all-of}
 use borrow.Author.Needs.{needs}
 use Rattle.parts.proofs.put_opening.Statement.{statement}
 use Rattle.parts.proofs.put_opening.Tie as tie
