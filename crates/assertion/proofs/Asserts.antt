@@ -199,23 +199,27 @@ unfolding varsText
 quantified enc [] w z = absurd (z refl)
 quantified enc (f ∷ fs) w z = refl
 
-module _ (enc : Encoder) (s a : List ℕ) (n r : ℕ) (d : Res Pred) where
-  pub assert-bare : (o o1 o2 o3 : Output) → n ≡ 0 → o1 ≡ emits o (bytes "(assert ") → HeadSends (implicationText enc) (onPath s (take n a)) d o1 o2 r
-      → o3 ≡ emits o2 (bytes ")\n") → HeadSends (assertText enc) (onPath s (take n a)) d o o3 r
+no-offsets : (os : List ℕ) → length os ≡ 0 → os ≡ []
+no-offsets [] z = refl
+no-offsets (o ∷ os) z = absurd (omega arith)
+
+module _ (enc : Encoder) (s a : List ℕ) (r : ℕ) (d : Res Pred) where
+  pub assert-bare : (o o1 o2 o3 : Output) → length a ≡ 0 → o1 ≡ emits o (bytes "(assert ") → HeadSends (implicationText enc) (onPath s a) d o1 o2 r
+      → o3 ≡ emits o2 (bytes ")\n") → HeadSends (assertText enc) (onPath s a) d o o3 r
   unfolding HeadSends Sends implicationText assertText write-assert emits onPath
   assert-bare o o1 o2 o3 z e1 w e3 fs q g x p h =
       let v = w fs q g x p h in
-      let y : got [] 0 ≡ got fs q = rw z at g in
+      let y : got [] 0 ≡ got fs q = rw (no-offsets a z) at g in
       let f : [] ≡ fs = cc in
       (v .0, rw (e3, v .1, e1, ← f) (sym (sent-on (emits o (bytes "(assert ")) (write-implication enc [] x) (bytes ")") (bytes "\n"))))
 
-  pub assert-bound : (o o1 o2 o3 o4 o5 o6 : Output) → (n ≡ 0 → ⊥) → n ≤ length a → o1 ≡ emits o (bytes "(assert ") → o2 ≡ emits o1 (bytes "(forall (")
-      → Sends (varsText enc) (onPath s (take n a)) o2 o3 0 → o4 ≡ emits o3 (bytes ") ") → HeadSends (implicationText enc) (onPath s (take n a)) d o4 o5 r
-      → o6 ≡ emits o5 (bytes "))\n") → HeadSends (assertText enc) (onPath s (take n a)) d o o6 r
+  pub assert-bound : (o o1 o2 o3 o4 o5 o6 : Output) → (length a ≡ 0 → ⊥) → o1 ≡ emits o (bytes "(assert ") → o2 ≡ emits o1 (bytes "(forall (")
+      → Sends (varsText enc) (onPath s a) o2 o3 0 → o4 ≡ emits o3 (bytes ") ") → HeadSends (implicationText enc) (onPath s a) d o4 o5 r
+      → o6 ≡ emits o5 (bytes "))\n") → HeadSends (assertText enc) (onPath s a) d o o6 r
   unfolding HeadSends Sends implicationText assertText write-assert emits
-  assert-bound o o1 o2 o3 o4 o5 o6 z m e1 e2 u e4 w e6 fs q g x p h =
+  assert-bound o o1 o2 o3 o4 o5 o6 z e1 e2 u e4 w e6 fs q g x p h =
       let v = w fs q g x p h in
-      let y = some-around s (take n a) fs q (rw (length-take-le n a m) z) g in
+      let y = some-around s a fs q z g in
       let i = write-implication enc (guardsOf fs) x in
       let t = sexp-list (bytes "forall" ∷ paren (varsText enc fs) ∷ i ∷ []) in (
         v .0,

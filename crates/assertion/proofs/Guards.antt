@@ -34,32 +34,26 @@ use Rattle.assertion.specs.Under.{forAllAt, onPath, varsText, keptText, 
 
 -- PATHS
 
--- the offsets of a path are among its 256
-pub sized : (a : List ℕ) (n : ℕ) → length (map (λ v. v) a) ≡ 256 → n ≤ 256 → n ≤ length a
-sized a n e h = rw (sym (length-map a (λ v. v)) ∙ e) h
-
-module _ {W : Type 0} {one : W → ForAll → W} {all : W → List ForAll → W} (steps : Steps [] _∷_ one all) (s a : List ℕ) (n : ℕ) (first : W) where
+module _ {W : Type 0} {one : W → ForAll → W} {all : W → List ForAll → W} (steps : Steps [] _∷_ one all) (s a : List ℕ) (first : W) where
   -- the loop over the offsets of a path: those from i on are left
   pub Along : ℕ → W → Type 0
-  Along i w = (n ≤ length a) × Owing steps (onPath s (take n a)) first (onPath s (drop i (take n a))) w
+  Along i w = Owing steps (onPath s a) first (onPath s (drop i a)) w
 
-  pub along-start : n ≤ length a → Along 0 first
+  pub along-start : Along 0 first
   unfolding Along
-  along-start h = (h, owing-start steps (onPath s (take n a)) first)
+  along-start = owing-start steps (onPath s a) first
 
-  pub along-more : (i : ℕ) (w w' : W) → i < n → Along i w → Runs one (forAllAt s (getD a i 0)) w w' 0 → Along (i + 1) w'
+  pub along-more : (i : ℕ) (w w' : W) → i < length a → Along i w → Runs one (forAllAt s (getD a i 0)) w w' 0 → Along (i + 1) w'
   unfolding Along onPath
   along-more i w w' g l u =
-      let h = l .0 in
-      let k : i < length (take n a) = rw (length-take-le n a h) g in
-      let e : drop i (take n a) ≡ getD a i 0 ∷ drop (i + 1) (take n a) = rw (add-one i) (drop-cons (take n a) i 0 k ∙ ap (λ (x : ℕ). x ∷ drop (suc i) (take n a)) (getD-take n a i 0 g)) in
-      (h, owing-more steps (onPath s (take n a)) first (forAllAt s (getD a i 0)) (λ p. onPath s (drop (i + 1) (take n a))) w w' 0 (subst (λ (os : List ℕ). Owing steps (onPath s (take n a)) first (onPath s os) w) e (l .1)) u)
+      let e : drop i a ≡ getD a i 0 ∷ drop (i + 1) a = rw (add-one i) (drop-cons a i 0 g) in
+      owing-more steps (onPath s a) first (forAllAt s (getD a i 0)) (λ p. onPath s (drop (i + 1) a)) w w' 0 (subst (λ (os : List ℕ). Owing steps (onPath s a) first (onPath s os) w) e l) u
 
-  pub along-end : (i : ℕ) (w : W) → n ≤ i → Along i w → Runs all (onPath s (take n a)) first w 0
+  pub along-end : (i : ℕ) (w : W) → length a ≤ i → Along i w → Runs all (onPath s a) first w 0
   unfolding Along onPath
   along-end i w g l =
-      let e : drop i (take n a) ≡ [] = drop-of-length-le (take n a) {i = i} (rw (length-take-le n a (l .0)) g) in
-      owing-end steps (onPath s (take n a)) first 0 w (subst (λ (os : List ℕ). Owing steps (onPath s (take n a)) first (onPath s os) w) e (l .1))
+      let e : drop i a ≡ [] = drop-of-length-le a {i = i} g in
+      owing-end steps (onPath s a) first 0 w (subst (λ (os : List ℕ). Owing steps (onPath s a) first (onPath s os) w) e l)
 
 -- ROWS OF PREDICATES
 
@@ -186,7 +180,7 @@ pub spaced-append : (us vs : List (List ℕ)) → spaced (us ++ vs) ≡ spaced u
 spaced-append [] vs = refl
 spaced-append (u ∷ us) vs = ap (λ (w : List ℕ). 32 ∷ w) (ap (λ (w : List ℕ). u ++ w) (spaced-append us vs) ∙ sym (append-assoc u (spaced us) (spaced vs)))
 
-preds-append : (enc : Encoder) (ps qs : List Pred) → write-preds enc (ps ++ qs) ≡ write-preds enc ps ++ write-preds enc qs
+pub preds-append : (enc : Encoder) (ps qs : List Pred) → write-preds enc (ps ++ qs) ≡ write-preds enc ps ++ write-preds enc qs
 preds-append enc [] qs = refl
 preds-append enc (p ∷ ps) qs = ap (λ (ws : List (List ℕ)). write-pred enc p ∷ ws) (preds-append enc ps qs)
 
@@ -333,11 +327,11 @@ pub for-all-zero : (s : List ℕ) (o : ℕ) (f : ForAll) (q : ℕ) → forAllAt 
 for-all-zero s o f q e = sym (parts s o f q e .zero-is)
 
 -- so that what is left of the path need not be counted
-pub along-full : (s a : List ℕ) (n i w : ℕ) → w ≡ 2 → i < n → Along all-steps s a n 0 i w → Counts countAll (onPath s (take n a)) 0 2
-along-full s a n i w e h l = runs-counts countAll (onPath s (take n a)) 0 2 0 (go (n - i) i (omega arith) (subst (Along all-steps s a n 0 i) e l))
+pub along-full : (s a : List ℕ) (i w : ℕ) → w ≡ 2 → i < length a → Along all-steps s a 0 i w → Counts countAll (onPath s a) 0 2
+along-full s a i w e h l = runs-counts countAll (onPath s a) 0 2 0 (go (length a - i) i (omega arith) (subst (Along all-steps s a 0 i) e l))
   where
-    go : (k i : ℕ) → i + k ≡ n → Along all-steps s a n 0 i 2 → Runs countAll (onPath s (take n a)) 0 2 0
-    go zero i e l = along-end all-steps s a n 0 i 2 (omega arith) l
+    go : (k i : ℕ) → i + k ≡ length a → Along all-steps s a 0 i 2 → Runs countAll (onPath s a) 0 2 0
+    go zero i e l = along-end all-steps s a 0 i 2 (omega arith) l
     go (suc k) i e l =
         go k (i + 1) (omega arith)
-        (along-more all-steps s a n 0 i 2 2 (omega arith) l (λ f q g. (for-all-zero s (getD a i 0) f q g, sym (full-row (f .preds)))))
+        (along-more all-steps s a 0 i 2 2 (omega arith) l (λ f q g. (for-all-zero s (getD a i 0) f q g, sym (full-row (f .preds)))))

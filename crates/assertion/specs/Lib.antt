@@ -1,1 +1,2 @@
 pub mod Under
+pub mod Kept

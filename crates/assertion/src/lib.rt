@@ -1,20 +1,20 @@
 // The writer of one assertion, `write_assert` of `smt_horn.rs`, from the offsets of the ForAlls around the head. The writers read any bytes:
 // what they send is told for a path whose offsets are those of ForAlls, and for a head that decodes.
-use constraint_check::Path;
 use output::Out;
 use smt_sort::Datatypes;
 use smt_word::Sent;
 use task::Number;
 use task::PredNode;
 use task_check::Walked;
+ghost use mathlib.Core.Bool.{true, false};
 ghost use mathlib.Core.Path.{_≡_};
 ghost use mathlib.Core.List.{[], _∷_};
 ghost use Prim.Native.Nat.{_+_, _≤_, min};
 ghost use Rattle.task.specs.Decode.{many, decExpr, decPred, deepest};
-ghost use Rattle.constraint_check.specs.Around.{entries};
 ghost use Rattle.output.specs.Emit.{output, Sends};
 ghost use Rattle.smt_sort.specs.Section.{encoderIn};
 ghost use Rattle.assertion.specs.Under.{forAllAt, onPath, varsText, keptText, ownText, guardsText, count, counts, countOwn, countAll, Counts, Passes, trueAt, conjunctionText, negationText, kvarText, exprText, implicationText, assertText, HeadSends};
+ghost use Rattle.assertion.specs.Kept.{Fits, Keeps, Extends};
 
 // Where a predicate ends, and the number of guards then.
 pub struct Tally {
@@ -22,17 +22,24 @@ pub struct Tally {
     pub count: u64,
 }
 
+// What is kept of a path for the heads under it: how many bytes its binders and its guards have, at the start of a text each, and the number
+// of its guards, up to 2. Nothing is kept of it where `has` is false; the bytes then are those of a path around it.
+pub struct Kept {
+    pub has: bool,
+    pub vars: usize,
+    pub guards: usize,
+    pub count: u64,
+}
+
 // Sends the binders of the path, without a space between two.
-fn write_vars(s: &[u8], path: Path, types: Datatypes, buf: &mut [u8], out: Out) -> Out
-    requires { ⌜ path .depth ≤ 256 ⌝ }
-    ensures { λ r. ⌜ Sends (varsText (encoderIn (now (s .entry)) types)) (onPath (now (s .entry)) (entries path)) (output (now (buf .entry)) (out .len)) (output (now (buf .exit)) (r .len)) 0 ⌝ }
+fn write_each_var(s: &[u8], path: &[usize], types: Datatypes, buf: &mut [u8], out: Out) -> Out
+    ensures { λ r. ⌜ Sends (varsText (encoderIn (now (s .entry)) types)) (onPath (now (s .entry)) (now (path .entry))) (output (now (buf .entry)) (out .len)) (output (now (buf .exit)) (r .len)) 0 ⌝ }
 {
-    let n = path.depth;
-    let offsets = path.offsets;
+    let n = path.len();
     let mut i: usize = 0;
     let mut sent = out;
     while i < n {
-        let at = offsets[i];
+        let at = path[i];
         let one = smt_sort::write_binder(s, at, 256, types, buf, sent);
         sent = one.out;
         i += 1;
@@ -110,16 +117,14 @@ fn write_own_guards(s: &[u8], at: usize, types: Datatypes, buf: &mut [u8], out: 
 }
 
 // Sends those of the path.
-fn write_guards(s: &[u8], path: Path, types: Datatypes, buf: &mut [u8], out: Out) -> Out
-    requires { ⌜ path .depth ≤ 256 ⌝ }
-    ensures { λ r. ⌜ Sends (guardsText (encoderIn (now (s .entry)) types)) (onPath (now (s .entry)) (entries path)) (output (now (buf .entry)) (out .len)) (output (now (buf .exit)) (r .len)) 0 ⌝ }
+fn write_each_guard(s: &[u8], path: &[usize], types: Datatypes, buf: &mut [u8], out: Out) -> Out
+    ensures { λ r. ⌜ Sends (guardsText (encoderIn (now (s .entry)) types)) (onPath (now (s .entry)) (now (path .entry))) (output (now (buf .entry)) (out .len)) (output (now (buf .exit)) (r .len)) 0 ⌝ }
 {
-    let n = path.depth;
-    let offsets = path.offsets;
+    let n = path.len();
     let mut i: usize = 0;
     let mut sent = out;
     while i < n {
-        let at = offsets[i];
+        let at = path[i];
         sent = write_own_guards(s, at, types, buf, sent);
         i += 1;
     }
@@ -191,57 +196,191 @@ fn count_own_guards(s: &[u8], at: usize, have: u64) -> u64
 }
 
 // Counts those of the path, up to 2.
-fn count_guards(s: &[u8], path: Path) -> u64
-    requires { ⌜ path .depth ≤ 256 ⌝ }
-    ensures { λ r. ⌜ Counts countAll (onPath (now (s .entry)) (entries path)) 0 r ⌝ }
+fn count_each_guard(s: &[u8], path: &[usize]) -> u64
+    ensures { λ r. ⌜ Counts countAll (onPath (now (s .entry)) (now (path .entry))) 0 r ⌝ }
 {
-    let n = path.depth;
-    let offsets = path.offsets;
+    let n = path.len();
     let mut i: usize = 0;
     let mut sum: u64 = 0;
     while i < n {
         if sum == 2 {
             return 2;
         }
-        let at = offsets[i];
+        let at = path[i];
         sum = count_own_guards(s, at, sum);
         i += 1;
     }
     sum
 }
 
-// Sends the guards before a KVar head and a space before them: `true` for none, one alone, more under `and`.
-fn write_guard_conjunction(s: &[u8], path: Path, types: Datatypes, buf: &mut [u8], out: Out) -> Out
-    requires { ⌜ path .depth ≤ 256 ⌝ }
-    ensures { λ r. ⌜ Sends (conjunctionText (encoderIn (now (s .entry)) types)) (onPath (now (s .entry)) (entries path)) (output (now (buf .entry)) (out .len)) (output (now (buf .exit)) (r .len)) 0 ⌝ }
+impl Kept {
+    // Of the path without ForAlls.
+    pub fn start() -> Kept
+        ensures { λ r. ⌜ (r .has ≡ true) × (r .vars ≡ 0) × (r .guards ≡ 0) × (r .count ≡ 0) ⌝ }
+    {
+        Kept {
+            has: true,
+            vars: 0,
+            guards: 0,
+            count: 0,
+        }
+    }
+
+    // Nothing of a longer path.
+    fn no_more(self) -> Kept
+        ensures { λ r. ⌜ (r .has ≡ false) × (r .vars ≡ self .vars) × (r .guards ≡ self .guards) ⌝ }
+    {
+        Kept {
+            has: false,
+            vars: self.vars,
+            guards: self.guards,
+            count: 0,
+        }
+    }
+}
+
+// Keeps the ForAll at an offset behind what is kept of the path around it, if there is room.
+pub fn extend(
+    s: &[u8],
+    at: usize,
+    types: Datatypes,
+    vars: &mut [u8],
+    guards: &mut [u8],
+    kept: Kept,
+) -> Kept
+    requires { ⌜ Fits (now vars) (now guards) kept ⌝ }
+    ensures { λ r. ⌜ Extends (now (s .entry)) types at kept r (now (vars .entry)) (now (guards .entry)) (now (vars .exit)) (now (guards .exit)) ⌝ }
 {
-    let guards = count_guards(s, path);
-    if guards == 0 {
+    if !kept.has {
+        return kept;
+    }
+    let v = kept.vars;
+    let g = kept.guards;
+    let vars_left = vars.len() - v;
+    let guards_left = guards.len() - g;
+    let binder = smt_sort::write_binder(s, at, 256, types, &mut vars[v..], Out::new());
+    let own = write_own_guards(s, at, types, &mut guards[g..], Out::new());
+    let sent = binder.out;
+    let m = sent.len;
+    let n = own.len;
+    if vars_left < m {
+        return kept.no_more();
+    }
+    if guards_left < n {
+        return kept.no_more();
+    }
+    Kept {
+        has: true,
+        vars: v + m,
+        guards: g + n,
+        count: count_own_guards(s, at, kept.count),
+    }
+}
+
+// Sends the binders of the path, from what is kept if they are.
+fn write_vars(
+    s: &[u8],
+    path: &[usize],
+    vars: &[u8],
+    guards: &[u8],
+    kept: Kept,
+    types: Datatypes,
+    buf: &mut [u8],
+    out: Out,
+) -> Out
+    requires { ⌜ Keeps (now s) types (now path) (now vars) (now guards) kept ⌝ }
+    ensures { λ r. ⌜ Sends (varsText (encoderIn (now (s .entry)) types)) (onPath (now (s .entry)) (now (path .entry))) (output (now (buf .entry)) (out .len)) (output (now (buf .exit)) (r .len)) 0 ⌝ }
+{
+    if kept.has {
+        let n = kept.vars;
+        return out.bytes(buf, &vars[..n]);
+    }
+    write_each_var(s, path, types, buf, out)
+}
+
+// Sends its guards, from what is kept if they are.
+fn write_guards(
+    s: &[u8],
+    path: &[usize],
+    vars: &[u8],
+    guards: &[u8],
+    kept: Kept,
+    types: Datatypes,
+    buf: &mut [u8],
+    out: Out,
+) -> Out
+    requires { ⌜ Keeps (now s) types (now path) (now vars) (now guards) kept ⌝ }
+    ensures { λ r. ⌜ Sends (guardsText (encoderIn (now (s .entry)) types)) (onPath (now (s .entry)) (now (path .entry))) (output (now (buf .entry)) (out .len)) (output (now (buf .exit)) (r .len)) 0 ⌝ }
+{
+    if kept.has {
+        let n = kept.guards;
+        return out.bytes(buf, &guards[..n]);
+    }
+    write_each_guard(s, path, types, buf, out)
+}
+
+// Counts its guards, up to 2, or takes the count that is kept.
+fn count_guards(
+    s: &[u8],
+    path: &[usize],
+    vars: &[u8],
+    guards: &[u8],
+    kept: Kept,
+    types: Datatypes,
+) -> u64
+    requires { ⌜ Keeps (now s) types (now path) (now vars) (now guards) kept ⌝ }
+    ensures { λ r. ⌜ Counts countAll (onPath (now (s .entry)) (now (path .entry))) 0 r ⌝ }
+{
+    if kept.has {
+        return kept.count;
+    }
+    count_each_guard(s, path)
+}
+
+// Sends the guards before a KVar head and a space before them: `true` for none, one alone, more under `and`.
+fn write_guard_conjunction(
+    s: &[u8],
+    path: &[usize],
+    vars: &[u8],
+    guards: &[u8],
+    kept: Kept,
+    types: Datatypes,
+    buf: &mut [u8],
+    out: Out,
+) -> Out
+    requires { ⌜ Keeps (now s) types (now path) (now vars) (now guards) kept ⌝ }
+    ensures { λ r. ⌜ Sends (conjunctionText (encoderIn (now (s .entry)) types)) (onPath (now (s .entry)) (now (path .entry))) (output (now (buf .entry)) (out .len)) (output (now (buf .exit)) (r .len)) 0 ⌝ }
+{
+    let count = count_guards(s, path, vars, guards, kept, types);
+    if count == 0 {
         return out.bytes(buf, b" true");
     }
-    if guards == 1 {
-        return write_guards(s, path, types, buf, out);
+    if count == 1 {
+        return write_guards(s, path, vars, guards, kept, types, buf, out);
     }
     let opened = out.bytes(buf, b" (and");
-    let listed = write_guards(s, path, types, buf, opened);
+    let listed = write_guards(s, path, vars, guards, kept, types, buf, opened);
     listed.byte(buf, b')')
 }
 
 // Sends the guards with the negation of the expression at a position, all under one `and` if there are guards.
 fn write_negation(
     s: &[u8],
-    path: Path,
+    path: &[usize],
+    vars: &[u8],
+    guards: &[u8],
+    kept: Kept,
     at: usize,
     levels: usize,
     types: Datatypes,
     buf: &mut [u8],
     out: Out,
 ) -> Sent
-    requires { ⌜ path .depth ≤ 256 ⌝ }
-    ensures { λ r. ⌜ HeadSends (negationText (encoderIn (now (s .entry)) types)) (onPath (now (s .entry)) (entries path)) (decExpr levels (now (s .entry)) at) (output (now (buf .entry)) (out .len)) (output (now (buf .exit)) (r .out .len)) (r .at) ⌝ }
+    requires { ⌜ Keeps (now s) types (now path) (now vars) (now guards) kept ⌝ }
+    ensures { λ r. ⌜ HeadSends (negationText (encoderIn (now (s .entry)) types)) (onPath (now (s .entry)) (now (path .entry))) (decExpr levels (now (s .entry)) at) (output (now (buf .entry)) (out .len)) (output (now (buf .exit)) (r .out .len)) (r .at) ⌝ }
 {
-    let guards = count_guards(s, path);
-    if guards == 0 {
+    let count = count_guards(s, path, vars, guards, kept, types);
+    if count == 0 {
         let opened = out.bytes(buf, b" (not ");
         let expr = smt_expr::write_expr(s, at, levels, types, buf, opened);
         let sent = expr.out;
@@ -252,7 +391,7 @@ fn write_negation(
         };
     }
     let opened = out.bytes(buf, b" (and");
-    let listed = write_guards(s, path, types, buf, opened);
+    let listed = write_guards(s, path, vars, guards, kept, types, buf, opened);
     let negated = listed.bytes(buf, b" (not ");
     let expr = smt_expr::write_expr(s, at, levels, types, buf, negated);
     let sent = expr.out;
@@ -266,18 +405,21 @@ fn write_negation(
 // Sends the implication of a KVar head.
 fn write_kvar_head(
     s: &[u8],
-    path: Path,
+    path: &[usize],
+    vars: &[u8],
+    guards: &[u8],
+    kept: Kept,
     at: usize,
     levels: usize,
     types: Datatypes,
     buf: &mut [u8],
     out: Out,
 ) -> Sent
-    requires { ⌜ path .depth ≤ 256 ⌝ }
-    ensures { λ r. ⌜ HeadSends (kvarText (encoderIn (now (s .entry)) types)) (onPath (now (s .entry)) (entries path)) (decPred levels (now (s .entry)) at) (output (now (buf .entry)) (out .len)) (output (now (buf .exit)) (r .out .len)) (r .at) ⌝ }
+    requires { ⌜ Keeps (now s) types (now path) (now vars) (now guards) kept ⌝ }
+    ensures { λ r. ⌜ HeadSends (kvarText (encoderIn (now (s .entry)) types)) (onPath (now (s .entry)) (now (path .entry))) (decPred levels (now (s .entry)) at) (output (now (buf .entry)) (out .len)) (output (now (buf .exit)) (r .out .len)) (r .at) ⌝ }
 {
     let opened = out.bytes(buf, b"(=>");
-    let guarded = write_guard_conjunction(s, path, types, buf, opened);
+    let guarded = write_guard_conjunction(s, path, vars, guards, kept, types, buf, opened);
     let spaced = guarded.byte(buf, b' ');
     let head = smt_fmt::write_pred(s, at, levels, types, buf, spaced);
     let sent = head.out;
@@ -291,18 +433,21 @@ fn write_kvar_head(
 // Sends the implication of an expression head: false from its negation.
 fn write_expr_head(
     s: &[u8],
-    path: Path,
+    path: &[usize],
+    vars: &[u8],
+    guards: &[u8],
+    kept: Kept,
     at: usize,
     levels: usize,
     types: Datatypes,
     buf: &mut [u8],
     out: Out,
 ) -> Sent
-    requires { ⌜ path .depth ≤ 256 ⌝ }
-    ensures { λ r. ⌜ HeadSends (exprText (encoderIn (now (s .entry)) types)) (onPath (now (s .entry)) (entries path)) (decExpr levels (now (s .entry)) at) (output (now (buf .entry)) (out .len)) (output (now (buf .exit)) (r .out .len)) (r .at) ⌝ }
+    requires { ⌜ Keeps (now s) types (now path) (now vars) (now guards) kept ⌝ }
+    ensures { λ r. ⌜ HeadSends (exprText (encoderIn (now (s .entry)) types)) (onPath (now (s .entry)) (now (path .entry))) (decExpr levels (now (s .entry)) at) (output (now (buf .entry)) (out .len)) (output (now (buf .exit)) (r .out .len)) (r .at) ⌝ }
 {
     let opened = out.bytes(buf, b"(=>");
-    let negation = write_negation(s, path, at, levels, types, buf, opened);
+    let negation = write_negation(s, path, vars, guards, kept, at, levels, types, buf, opened);
     let sent = negation.out;
     let closed = sent.bytes(buf, b" false)");
     Sent {
@@ -314,15 +459,18 @@ fn write_expr_head(
 // Sends the implication of the head at a position.
 fn write_implication(
     s: &[u8],
-    path: Path,
+    path: &[usize],
+    vars: &[u8],
+    guards: &[u8],
+    kept: Kept,
     at: usize,
     levels: usize,
     types: Datatypes,
     buf: &mut [u8],
     out: Out,
 ) -> Sent
-    requires { ⌜ path .depth ≤ 256 ⌝ }
-    ensures { λ r. ⌜ HeadSends (implicationText (encoderIn (now (s .entry)) types)) (onPath (now (s .entry)) (entries path)) (decPred levels (now (s .entry)) at) (output (now (buf .entry)) (out .len)) (output (now (buf .exit)) (r .out .len)) (r .at) ⌝ }
+    requires { ⌜ Keeps (now s) types (now path) (now vars) (now guards) kept ⌝ }
+    ensures { λ r. ⌜ HeadSends (implicationText (encoderIn (now (s .entry)) types)) (onPath (now (s .entry)) (now (path .entry))) (decPred levels (now (s .entry)) at) (output (now (buf .entry)) (out .len)) (output (now (buf .exit)) (r .out .len)) (r .at) ⌝ }
 {
     if levels == 0 {
         return Sent { at, out };
@@ -330,8 +478,30 @@ fn write_implication(
     let below = levels - 1;
     let node = task::read_pred_node(s, at);
     match node {
-        PredNode::KVar(_, _, _) => write_kvar_head(s, path, at, levels, types, buf, out),
-        PredNode::Expr(p) => write_expr_head(s, path, p, below, types, buf, out),
+        PredNode::KVar(_, _, _) => write_kvar_head(
+            s,
+            path,
+            vars,
+            guards,
+            kept,
+            at,
+            levels,
+            types,
+            buf,
+            out,
+        ),
+        PredNode::Expr(p) => write_expr_head(
+            s,
+            path,
+            vars,
+            guards,
+            kept,
+            p,
+            below,
+            types,
+            buf,
+            out,
+        ),
         PredNode::Refused => Sent { at, out },
     }
 }
@@ -339,20 +509,22 @@ fn write_implication(
 // Sends the assertion of the head at a position, inside the ForAlls of the path.
 pub fn write_assert(
     s: &[u8],
-    path: Path,
+    path: &[usize],
+    vars: &[u8],
+    guards: &[u8],
+    kept: Kept,
     at: usize,
     levels: usize,
     types: Datatypes,
     buf: &mut [u8],
     out: Out,
 ) -> Sent
-    requires { ⌜ path .depth ≤ 256 ⌝ }
-    ensures { λ r. ⌜ HeadSends (assertText (encoderIn (now (s .entry)) types)) (onPath (now (s .entry)) (entries path)) (decPred levels (now (s .entry)) at) (output (now (buf .entry)) (out .len)) (output (now (buf .exit)) (r .out .len)) (r .at) ⌝ }
+    requires { ⌜ Keeps (now s) types (now path) (now vars) (now guards) kept ⌝ }
+    ensures { λ r. ⌜ HeadSends (assertText (encoderIn (now (s .entry)) types)) (onPath (now (s .entry)) (now (path .entry))) (decPred levels (now (s .entry)) at) (output (now (buf .entry)) (out .len)) (output (now (buf .exit)) (r .out .len)) (r .at) ⌝ }
 {
     let opened = out.bytes(buf, b"(assert ");
-    let depth = path.depth;
-    if depth == 0 {
-        let body = write_implication(s, path, at, levels, types, buf, opened);
+    if path.len() == 0 {
+        let body = write_implication(s, path, vars, guards, kept, at, levels, types, buf, opened);
         let sent = body.out;
         let closed = sent.bytes(buf, b")\n");
         return Sent {
@@ -361,9 +533,9 @@ pub fn write_assert(
         };
     }
     let quantified = opened.bytes(buf, b"(forall (");
-    let vars = write_vars(s, path, types, buf, quantified);
-    let parted = vars.bytes(buf, b") ");
-    let body = write_implication(s, path, at, levels, types, buf, parted);
+    let bound = write_vars(s, path, vars, guards, kept, types, buf, quantified);
+    let parted = bound.bytes(buf, b") ");
+    let body = write_implication(s, path, vars, guards, kept, at, levels, types, buf, parted);
     let sent = body.out;
     let closed = sent.bytes(buf, b"))\n");
     Sent {

@@ -1,11 +1,12 @@
--- The names on a path.
-use mathlib.Core.Path.{_≡_, refl, ap, _∙_}
+-- The names on a path, and an offset put on a path.
+use mathlib.Core.Path.{_≡_, refl, sym, ap, _∙_}
 use mathlib.Core.Bool.{Bool, true, false, _||_}
 use mathlib.Core.List.{List, [], _∷_, _++_}
 use Prim.Native.Nat.{ℕ, suc, _+_, _<_, _≤_}
 use native.Mathlib.Numerals.{add-one}
-use lib.ListN.{length, take, drop, getD, set, drop-of-length-le}
-use lib.Seq.{take-suc-set, length-take-le, drop-cons, getD-take}
+use native.Mathlib.Omega.{arith}
+use lib.ListN.{length, take, drop, getD, set, drop-of-length-le, length-append}
+use lib.Seq.{take-suc, take-suc-set, take-length, drop-cons}
 use Rattle.smtlib.specs.Lexicon.{same}
 use Rattle.task.specs.Decode.{Res, got, refuse, name}
 use Rattle.task.specs.Fault.{isOne}
@@ -30,23 +31,35 @@ names-append s (a ∷ os) o x p e = ap (named (name s a)) (names-append s os o x
     front (refuse k) xs = refl
 
 -- the loop of is_around: the offsets from i on decide it; b is the answer for the offset at i
-module _ (s w a : List ℕ) (n i : ℕ) (b x : Bool) where
-  step : n ≤ length a → i < n → isOne w (namesOn s (drop i (take n a))) ≡ (isOne w (namedAt s (getD a i 0)) || isOne w (namesOn s (drop (i + 1) (take n a))))
-  step h g =
-      let k : i < length (take n a) = rw (length-take-le n a h) g in
-      rw (add-one i, drop-cons (take n a) i 0 k, getD-take n a i 0 g) (is-one-named w (name s (getD a i 0)) (namesOn s (drop (suc i) (take n a))))
+module _ (s w a : List ℕ) (i : ℕ) (b x : Bool) where
+  step : i < length a → isOne w (namesOn s (drop i a)) ≡ (isOne w (namedAt s (getD a i 0)) || isOne w (namesOn s (drop (i + 1) a)))
+  step g = rw (add-one i, drop-cons a i 0 g) (is-one-named w (name s (getD a i 0)) (namesOn s (drop (suc i) a)))
 
-  pub around-goes : n ≤ length a → i < n → b ≡ isOne w (namedAt s (getD a i 0)) → b ≡ false
-      → isOne w (namesOn s (drop i (take n a))) ≡ x → isOne w (namesOn s (drop (i + 1) (take n a))) ≡ x
-  around-goes h g e e' z = rw (step h g, ← e, e') at z
+  pub around-goes : i < length a → b ≡ isOne w (namedAt s (getD a i 0)) → b ≡ false
+      → isOne w (namesOn s (drop i a)) ≡ x → isOne w (namesOn s (drop (i + 1) a)) ≡ x
+  around-goes g e e' z = rw (step g, ← e, e') at z
 
-  pub around-stops : n ≤ length a → i < n → b ≡ isOne w (namedAt s (getD a i 0)) → b ≡ true
-      → isOne w (namesOn s (drop i (take n a))) ≡ x → true ≡ x
-  around-stops h g e e' z = rw (step h g, ← e, e') at z
+  pub around-stops : i < length a → b ≡ isOne w (namedAt s (getD a i 0)) → b ≡ true → isOne w (namesOn s (drop i a)) ≡ x → true ≡ x
+  around-stops g e e' z = rw (step g, ← e, e') at z
 
-  pub around-ends : n ≤ length a → n ≤ i → isOne w (namesOn s (drop i (take n a))) ≡ x → false ≡ x
-  around-ends h g z = rw (drop-of-length-le (take n a) {i = i} (rw (length-take-le n a h) g)) at z
+  pub around-ends : length a ≤ i → isOne w (namesOn s (drop i a)) ≡ x → false ≡ x
+  around-ends g z = rw (drop-of-length-le a {i = i} g) at z
 
--- an offset put on a path
-pub pushed : (items : List ℕ) (d x : ℕ) → d < length items → take (d + 1) (set items d x) ≡ take d items ++ x ∷ []
-pushed items d x h = rw (add-one d) (take-suc-set items d x h)
+-- the loop of push: the first k offsets are those of the path; then one more is put behind all of them
+module _ (a items : List ℕ) (k : ℕ) (e : take k items ≡ take k a) where
+  pub copied : k < length items → k < length a → take (k + 1) (set items k (getD a k 0)) ≡ take (k + 1) a
+  copied h g = rw (add-one k, take-suc-set items k (getD a k 0) h, take-suc a k 0 g, e)
+
+  pub pushed : (x : ℕ) → length a < length items → k ≤ length a → length a ≤ k → take (length a + 1) (set items (length a) x) ≡ a ++ x ∷ []
+  pushed x h g g' =
+      let z : k ≡ length a = omega arith in
+      let e' : take (length a) items ≡ a = rw z at e ∙ take-length a in
+      rw (add-one (length a), take-suc-set items (length a) x h, e')
+
+-- what a caller of push lends, `&offsets[..depth]`, is as long as depth says: by what push ensures, one more offset than there were
+module _ (a offsets : List ℕ) (depth at : ℕ) (p : (depth ≡ length a + 1) × (take depth offsets ≡ a ++ at ∷ []) × (length offsets ≡ 256)) where
+  pub push-length : length (take depth offsets) ≡ length a + 1
+  push-length = ap length (p .1) ∙ length-append a (at ∷ [])
+
+  pub push-count : depth ≡ length (take depth offsets)
+  push-count = p .0 ∙ sym push-length

@@ -8,6 +8,7 @@ use task_check::Walked;
 ghost use mathlib.Core.Path.{_≡_};
 ghost use mathlib.Core.List.{[], _∷_, _++_};
 ghost use Prim.Native.Nat.{_+_, _<_, _≤_};
+ghost use lib.ListN.{length};
 ghost use Rattle.task.specs.Ast.{Constraints};
 ghost use Rattle.task.specs.Decode.{many, decPred, decConstraint, deepest};
 ghost use Rattle.task.specs.Fault.{lower, nameFault, isOne, predFault, constraintFault, constraintsFault, shadowFault};
@@ -30,36 +31,31 @@ pub struct Path {
 }
 
 impl Path {
-    pub fn empty() -> Path
-        ensures { λ r. ⌜ (r .depth ≡ 0) × (entries r ≡ []) ⌝ }
+    // The ForAlls around and one more inside them, as an array of its own.
+    pub fn push(path: &[usize], at: usize) -> Path
+        requires { ⌜ length (now path) < 256 ⌝ }
+        ensures { λ r. ⌜ (r .depth ≡ length (now (path .entry)) + 1) × (entries r ≡ now (path .entry) ++ at ∷ []) × (length (r .offsets) ≡ 256) ⌝ }
     {
-        Path {
-            offsets: [0; 256],
-            depth: 0,
+        let n = path.len();
+        let mut offsets = [0usize; 256];
+        let mut k: usize = 0;
+        while k < n {
+            offsets[k] = path[k];
+            k += 1;
         }
-    }
-
-    pub fn push(mut self, at: usize) -> Path
-        requires { ⌜ self .depth < 256 ⌝ }
-        ensures { λ r. ⌜ (r .depth ≡ self .depth + 1) × (entries r ≡ entries self ++ at ∷ []) ⌝ }
-    {
-        let d = self.depth;
-        self.offsets[d] = at;
-        self.depth = d + 1;
-        self
+        offsets[n] = at;
+        let depth = n + 1;
+        Path { offsets, depth }
     }
 }
 
 // Whether a name is that of a ForAll on the path.
-fn is_around(s: &[u8], x: &[u8], path: Path) -> bool
-    requires { ⌜ path .depth ≤ 256 ⌝ }
-    ensures { λ r. ⌜ r ≡ isOne (now (x .entry)) (namesOn (now (s .entry)) (entries path)) ⌝ }
+fn is_around(s: &[u8], x: &[u8], path: &[usize]) -> bool
+    ensures { λ r. ⌜ r ≡ isOne (now (x .entry)) (namesOn (now (s .entry)) (now (path .entry))) ⌝ }
 {
-    let n = path.depth;
-    let offsets = path.offsets;
     let mut i: usize = 0;
-    while i < n {
-        let at = offsets[i];
+    while i < path.len() {
+        let at = path[i];
         if task_check::is_named(s, at, x) {
             return true;
         }
@@ -69,9 +65,8 @@ fn is_around(s: &[u8], x: &[u8], path: Path) -> bool
 }
 
 // The fault of a ForAll that is named like one around it.
-fn shadow_fault(s: &[u8], x: Span, path: Path) -> Fault
-    requires { ⌜ path .depth ≤ 256 ⌝ }
-    ensures { λ r. ⌜ r ≡ shadowFault (namesOn (now (s .entry)) (entries path)) (bytesOf (now (s .entry)) x) ⌝ }
+fn shadow_fault(s: &[u8], x: Span, path: &[usize]) -> Fault
+    ensures { λ r. ⌜ r ≡ shadowFault (namesOn (now (s .entry)) (now (path .entry))) (bytesOf (now (s .entry)) x) ⌝ }
 {
     if is_around(s, task::bytes_of(s, x), path) {
         return Fault::Shadowed;
@@ -94,9 +89,9 @@ fn check_head(s: &[u8], at: usize, levels: usize) -> Counted
 }
 
 // The constraint at a position, inside the ForAlls of the path.
-fn check_within(s: &[u8], at: usize, levels: usize, path: Path) -> Counted
-    requires { ⌜ path .depth + levels ≤ 256 ⌝ }
-    ensures { λ r. ⌜ r ≡ tally (constraintFault (namesOn (now (s .entry)) (entries path))) headsOf (decConstraint levels (now (s .entry)) at) ⌝ }
+fn check_within(s: &[u8], at: usize, levels: usize, path: &[usize]) -> Counted
+    requires { ⌜ length (now path) + levels ≤ 256 ⌝ }
+    ensures { λ r. ⌜ r ≡ tally (constraintFault (namesOn (now (s .entry)) (now (path .entry)))) headsOf (decConstraint levels (now (s .entry)) at) ⌝ }
 {
     if levels == 0 {
         return Counted {
@@ -115,9 +110,9 @@ fn check_within(s: &[u8], at: usize, levels: usize, path: Path) -> Counted
 }
 
 // n constraints in a row.
-fn check_members(s: &[u8], at: usize, n: u64, levels: usize, path: Path) -> Counted
-    requires { ⌜ path .depth + levels ≤ 256 ⌝ }
-    ensures { λ r. ⌜ r ≡ tally (constraintsFault (namesOn (now (s .entry)) (entries path))) headsIn (many Constraints.none Constraints.more (decConstraint levels) n (now (s .entry)) at) ⌝ }
+fn check_members(s: &[u8], at: usize, n: u64, levels: usize, path: &[usize]) -> Counted
+    requires { ⌜ length (now path) + levels ≤ 256 ⌝ }
+    ensures { λ r. ⌜ r ≡ tally (constraintsFault (namesOn (now (s .entry)) (now (path .entry)))) headsIn (many Constraints.none Constraints.more (decConstraint levels) n (now (s .entry)) at) ⌝ }
 {
     let mut p = at;
     let mut left = n;
@@ -141,9 +136,8 @@ fn check_members(s: &[u8], at: usize, n: u64, levels: usize, path: Path) -> Coun
 }
 
 // The fault of a ForAll's name, before that of its sort and predicates.
-fn binder_fault(s: &[u8], x: Span, path: Path, rest: Fault) -> Fault
-    requires { ⌜ path .depth ≤ 256 ⌝ }
-    ensures { λ r. ⌜ r ≡ lower (nameFault (bytesOf (now (s .entry)) x)) (lower (shadowFault (namesOn (now (s .entry)) (entries path)) (bytesOf (now (s .entry)) x)) rest) ⌝ }
+fn binder_fault(s: &[u8], x: Span, path: &[usize], rest: Fault) -> Fault
+    ensures { λ r. ⌜ r ≡ lower (nameFault (bytesOf (now (s .entry)) x)) (lower (shadowFault (namesOn (now (s .entry)) (now (path .entry))) (bytesOf (now (s .entry)) x)) rest) ⌝ }
 {
     let shadow = shadow_fault(s, x, path);
     task_check::lower(
@@ -163,9 +157,9 @@ fn refused() -> Counted
 }
 
 // A ForAll behind its code: name, sort, counted predicates, body.
-fn check_for_all(s: &[u8], at: usize, levels: usize, path: Path) -> Counted
-    requires { ⌜ path .depth + levels < 256 ⌝ }
-    ensures { λ r. ⌜ r ≡ tally (constraintFault (namesOn (now (s .entry)) (entries path))) headsOf (forAll levels (now (s .entry)) at) ⌝ }
+fn check_for_all(s: &[u8], at: usize, levels: usize, path: &[usize]) -> Counted
+    requires { ⌜ length (now path) + levels < 256 ⌝ }
+    ensures { λ r. ⌜ r ≡ tally (constraintFault (namesOn (now (s .entry)) (now (path .entry)))) headsOf (forAll levels (now (s .entry)) at) ⌝ }
 {
     let name = task::read_name(s, at);
     let SpanRead::At(x, p) = name else {
@@ -189,11 +183,14 @@ fn check_for_all(s: &[u8], at: usize, levels: usize, path: Path) -> Counted
             heads: 0,
         };
     };
-    let body = check_within(s, t, levels, path.push(at));
+    let inner = Path::push(path, at);
+    let offsets = inner.offsets;
+    let depth = inner.depth;
+    let body = check_within(s, t, levels, &offsets[..depth]);
     let fault = binder_fault(s, x, path, task_check::lower(f, g));
-    let inner = body.walked;
+    let walked = body.walked;
     Counted {
-        walked: task_check::after(fault, inner),
+        walked: task_check::after(fault, walked),
         heads: body.heads,
     }
 }
@@ -202,5 +199,6 @@ fn check_for_all(s: &[u8], at: usize, levels: usize, path: Path) -> Counted
 pub fn check_constraint(s: &[u8], at: usize) -> Counted
     ensures { λ r. ⌜ r ≡ tally (constraintFault []) headsOf (decConstraint deepest (now (s .entry)) at) ⌝ }
 {
-    check_within(s, at, 256, Path::empty())
+    let none = [0usize; 0];
+    check_within(s, at, 256, &none)
 }

@@ -30,6 +30,7 @@ use Rattle.horn_text.proofs.Places.{binders-snoc, guards-snoc}
 use Rattle.output.specs.Emit.{output, most}
 use Rattle.output.proofs.Sending.{runs-refused, runs-end, runs-then, Steps, Owing, owing-start, owing-more, owing-end}
 use Rattle.assertion.specs.Under.{forAllAt, onPath, assertText, HeadSends}
+use Rattle.assertion.proofs.Keeping.{on-cons}
 use Rattle.flatten.specs.declared.Range.{Range}
 use Rattle.flatten.specs.declared.Progress.{Progress}
 use Rattle.flatten.specs.Parts.{Writing, writing, has, placed, passed, put, puts, Puts, PutsUnder, assertPart, headParts, clauseParts, memberParts}
@@ -195,11 +196,6 @@ parts l s at c t e =
       is = cc;
     }
 
--- an offset before a path
-on-cons : (s os : List ℕ) (o : ℕ) (f : ForAll) (p : ℕ) (fs : List ForAll) (q : ℕ) → forAllAt s o ≡ got f p → onPath s os ≡ got fs q → onPath s (o ∷ os) ≡ got (f ∷ fs) q
-unfolding onPath
-on-cons s os o f p fs q e h = rw (e, h)
-
 -- an offset that is put on a path
 on-snoc : (s os : List ℕ) (at : ℕ) (fs : List ForAll) (q : ℕ) (f : ForAll) → onPath s os ≡ got fs q → forAllAt s at ≡ got f 0
     → onPath s (os ++ at ∷ []) ≡ got (fs ++ f ∷ []) 0
@@ -213,6 +209,11 @@ on-snoc s (o ∷ os) at fs q f e h =
     let z : i .value ∷ j .value ≡ fs = cc in
     on-cons s (os ++ at ∷ []) o (i .value) (i .next) (j .value ++ f ∷ []) 0 (i .first) (on-snoc s os at (j .value) (j .next) f (j .first) h)
     ∙ ap (λ (gs : List ForAll). got (gs ++ f ∷ []) 0) z
+
+-- the body of a ForAll was walked with a path that has its offset
+pub body-puts : (enc : Encoder) (r : Range) (s os os' : List ℕ) (d : Res Constraint) (w w' : Writing) (t : ℕ) → os' ≡ os
+    → PutsUnder (clauseParts enc) r (onPath s os') d w w' t → PutsUnder (clauseParts enc) r (onPath s os) d w w' t
+body-puts enc r s os os' d w w' t e u = rw (← e) u
 
 -- what is under a ForAll too
 under-one : (enc : Encoder) (r : Range) (w : Writing) (fs : List ForAll) (f : ForAll) (c : Constraint)

@@ -3,10 +3,9 @@ use mathlib.Core.Path.{_≡_, refl, ap, _∙_}
 use mathlib.Core.Bool.{Bool, true, false, cond}
 use mathlib.Core.List.{List, [], _∷_, _++_}
 use Prim.Native.Nat.{ℕ, zero, suc, _+_, _<_, _≤_, min, max}
-use native.Mathlib.Nat.{zero-add}
 use native.Mathlib.Omega.{arith}
 use lib.ListN.{length, set, drop, getD, length-append}
-use lib.Seq.{sets, sets-eq}
+use lib.Seq.{sets}
 use borrow.Author.Tests.{le-leb, lt-leb, lt-ltb, le-ltb}
 use Rattle.horn_text.specs.Script.{join, longest}
 use Rattle.output.specs.Emit.{most}
@@ -19,10 +18,6 @@ sets-append [] v b n = let e : n + 0 ≡ n = omega arith in rw e
 sets-append (a ∷ u) v b n =
     let e : n + suc (length u) ≡ suc n + length u = omega arith in
     rw e (sets-append u v (set b n a) (suc n))
-
--- a text that fits the buffer stands at its start, before what stood behind
-pub sets-laid : (t b : List ℕ) → length t ≤ length b → sets b 0 t ≡ t ++ drop (length t) b
-sets-laid t b h = sets-eq t b 0 (omega arith) ∙ ap (λ (k : ℕ). t ++ drop k b) (zero-add (length t))
 
 -- TOTALS
 

@@ -1,17 +1,21 @@
 // `flatten_constraint` of `smt_horn.rs`: the walk of the constraint with the path of ForAlls. At each head that is not literally true it puts
 // the assertion into the buffer behind the last written byte, if the assertion's number among the parts is in the range.
+use assertion::Kept;
 use constraint_check::Path;
 use output::Out;
 use smt_sort::Datatypes;
 use task::ConstraintNode;
 use task::Number;
 use task_check::Walked;
+ghost use mathlib.Core.List.{[], _∷_, _++_};
 ghost use mathlib.Core.Path.{_≡_};
 ghost use Prim.Native.Nat.{_+_, _<_, _≤_, max};
+ghost use lib.ListN.{length};
 ghost use Rattle.task.specs.Ast.{Constraints};
 ghost use Rattle.task.specs.Decode.{many, decPred, decConstraint};
-ghost use Rattle.constraint_check.specs.Around.{entries, forAll};
+ghost use Rattle.constraint_check.specs.Around.{forAll};
 ghost use Rattle.smt_sort.specs.Section.{encoderIn};
+ghost use Rattle.assertion.specs.Kept.{Keeps, Stays};
 ghost use Rattle.assertion.specs.Under.{onPath};
 ghost use Rattle.flatten.specs.Parts.{writing, has as hasIn, placed as placedIs, passed as passedIs, PutsUnder, assertPart, headParts, clauseParts, memberParts};
 
@@ -99,21 +103,35 @@ fn put_assert(
     s: &[u8],
     at: usize,
     levels: usize,
-    path: Path,
+    path: &[usize],
+    vars: &[u8],
+    guards: &[u8],
+    kept: Kept,
     types: Datatypes,
     range: Range,
     buf: &mut [u8],
     p: Progress,
 ) -> Moved
-    requires { ⌜ path .depth ≤ 256 ⌝ }
-    ensures { λ r. ⌜ PutsUnder (assertPart (encoderIn (now (s .entry)) types)) range (onPath (now (s .entry)) (entries path)) (decPred levels (now (s .entry)) at) (writing p (now (buf .entry))) (writing (r .progress) (now (buf .exit))) (r .at) ⌝ }
+    requires { ⌜ Keeps (now s) types (now path) (now vars) (now guards) kept ⌝ }
+    ensures { λ r. ⌜ PutsUnder (assertPart (encoderIn (now (s .entry)) types)) range (onPath (now (s .entry)) (now (path .entry))) (decPred levels (now (s .entry)) at) (writing p (now (buf .entry))) (writing (r .progress) (now (buf .exit))) (r .at) ⌝ }
 {
     let seen = p.seen;
     if range.has(seen) {
         let len = p.len;
         let start = output::least(len, buf.len());
         let none = Out::new();
-        let sent = assertion::write_assert(s, path, at, levels, types, &mut buf[start..], none);
+        let sent = assertion::write_assert(
+            s,
+            path,
+            vars,
+            guards,
+            kept,
+            at,
+            levels,
+            types,
+            &mut buf[start..],
+            none,
+        );
         let out = sent.out;
         return Moved {
             at: sent.at,
@@ -135,14 +153,17 @@ fn flatten_head(
     s: &[u8],
     at: usize,
     levels: usize,
-    path: Path,
+    path: &[usize],
+    vars: &[u8],
+    guards: &[u8],
+    kept: Kept,
     types: Datatypes,
     range: Range,
     buf: &mut [u8],
     p: Progress,
 ) -> Moved
-    requires { ⌜ path .depth ≤ 256 ⌝ }
-    ensures { λ r. ⌜ PutsUnder (headParts (encoderIn (now (s .entry)) types)) range (onPath (now (s .entry)) (entries path)) (decPred levels (now (s .entry)) at) (writing p (now (buf .entry))) (writing (r .progress) (now (buf .exit))) (r .at) ⌝ }
+    requires { ⌜ Keeps (now s) types (now path) (now vars) (now guards) kept ⌝ }
+    ensures { λ r. ⌜ PutsUnder (headParts (encoderIn (now (s .entry)) types)) range (onPath (now (s .entry)) (now (path .entry))) (decPred levels (now (s .entry)) at) (writing p (now (buf .entry))) (writing (r .progress) (now (buf .exit))) (r .at) ⌝ }
 {
     if task_check::is_literally_true(s, at, levels) {
         let walked = task_check::check_pred(s, at, levels);
@@ -151,7 +172,19 @@ fn flatten_head(
         };
         return Moved { at: q, progress: p };
     }
-    put_assert(s, at, levels, path, types, range, buf, p)
+    put_assert(
+        s,
+        at,
+        levels,
+        path,
+        vars,
+        guards,
+        kept,
+        types,
+        range,
+        buf,
+        p,
+    )
 }
 
 // The constraint at a position, inside the ForAlls of the path.
@@ -159,27 +192,49 @@ pub fn flatten_constraint(
     s: &[u8],
     at: usize,
     levels: usize,
-    path: Path,
+    path: &[usize],
     types: Datatypes,
     range: Range,
     buf: &mut [u8],
     p: Progress,
+    vars: &mut [u8],
+    guards: &mut [u8],
+    kept: Kept,
 ) -> Moved
-    requires { ⌜ path .depth + levels ≤ 256 ⌝ }
-    ensures { λ r. ⌜ PutsUnder (clauseParts (encoderIn (now (s .entry)) types)) range (onPath (now (s .entry)) (entries path)) (decConstraint levels (now (s .entry)) at) (writing p (now (buf .entry))) (writing (r .progress) (now (buf .exit))) (r .at) ⌝ }
+    requires { ⌜ (length (now path) + levels ≤ 256) × Keeps (now s) types (now path) (now vars) (now guards) kept ⌝ }
+    ensures { λ r. ⌜ PutsUnder (clauseParts (encoderIn (now (s .entry)) types)) range (onPath (now (s .entry)) (now (path .entry))) (decConstraint levels (now (s .entry)) at) (writing p (now (buf .entry))) (writing (r .progress) (now (buf .exit))) (r .at) ⌝ }
+    ensures { λ r. ⌜ Stays kept (now (vars .entry)) (now (guards .entry)) (now (vars .exit)) (now (guards .exit)) ⌝ }
 {
+    let stays = Moved { at, progress: p };
     if levels == 0 {
-        return Moved { at, progress: p };
+        return stays;
     }
     let below = levels - 1;
     let node = task::read_constraint_node(s, at);
     match node {
-        ConstraintNode::Pred(q) => flatten_head(s, q, below, path, types, range, buf, p),
-        ConstraintNode::Conj(n, q) => {
-            flatten_members(s, q, n, below, path, types, range, buf, p)
+        ConstraintNode::Pred(q) => {
+            flatten_head(s, q, below, path, vars, guards, kept, types, range, buf, p)
         }
-        ConstraintNode::ForAll(q) => flatten_for_all(s, q, below, path, types, range, buf, p),
-        ConstraintNode::Refused => Moved { at, progress: p },
+        ConstraintNode::Conj(n, q) => {
+            flatten_members(
+                s,
+                q,
+                n,
+                below,
+                path,
+                types,
+                range,
+                buf,
+                p,
+                vars,
+                guards,
+                kept,
+            )
+        }
+        ConstraintNode::ForAll(q) => {
+            flatten_for_all(s, q, below, path, types, range, buf, p, vars, guards, kept)
+        }
+        ConstraintNode::Refused => stays,
     }
 }
 
@@ -189,20 +244,36 @@ fn flatten_members(
     at: usize,
     n: u64,
     levels: usize,
-    path: Path,
+    path: &[usize],
     types: Datatypes,
     range: Range,
     buf: &mut [u8],
     p: Progress,
+    vars: &mut [u8],
+    guards: &mut [u8],
+    kept: Kept,
 ) -> Moved
-    requires { ⌜ path .depth + levels ≤ 256 ⌝ }
-    ensures { λ r. ⌜ PutsUnder (memberParts (encoderIn (now (s .entry)) types)) range (onPath (now (s .entry)) (entries path)) (many Constraints.none Constraints.more (decConstraint levels) n (now (s .entry)) at) (writing p (now (buf .entry))) (writing (r .progress) (now (buf .exit))) (r .at) ⌝ }
+    requires { ⌜ (length (now path) + levels ≤ 256) × Keeps (now s) types (now path) (now vars) (now guards) kept ⌝ }
+    ensures { λ r. ⌜ PutsUnder (memberParts (encoderIn (now (s .entry)) types)) range (onPath (now (s .entry)) (now (path .entry))) (many Constraints.none Constraints.more (decConstraint levels) n (now (s .entry)) at) (writing p (now (buf .entry))) (writing (r .progress) (now (buf .exit))) (r .at) ⌝ }
+    ensures { λ r. ⌜ Stays kept (now (vars .entry)) (now (guards .entry)) (now (vars .exit)) (now (guards .exit)) ⌝ }
 {
     let mut q = at;
     let mut left = n;
     let mut progress = p;
     while 0 < left {
-        let one = flatten_constraint(s, q, levels, path, types, range, buf, progress);
+        let one = flatten_constraint(
+            s,
+            q,
+            levels,
+            path,
+            types,
+            range,
+            buf,
+            progress,
+            vars,
+            guards,
+            kept,
+        );
         q = one.at;
         progress = one.progress;
         left -= 1;
@@ -215,26 +286,82 @@ fn flatten_for_all(
     s: &[u8],
     at: usize,
     levels: usize,
-    path: Path,
+    path: &[usize],
     types: Datatypes,
     range: Range,
     buf: &mut [u8],
     p: Progress,
+    vars: &mut [u8],
+    guards: &mut [u8],
+    kept: Kept,
 ) -> Moved
-    requires { ⌜ path .depth + levels < 256 ⌝ }
-    ensures { λ r. ⌜ PutsUnder (clauseParts (encoderIn (now (s .entry)) types)) range (onPath (now (s .entry)) (entries path)) (forAll levels (now (s .entry)) at) (writing p (now (buf .entry))) (writing (r .progress) (now (buf .exit))) (r .at) ⌝ }
+    requires { ⌜ (length (now path) + levels < 256) × Keeps (now s) types (now path) (now vars) (now guards) kept ⌝ }
+    ensures { λ r. ⌜ PutsUnder (clauseParts (encoderIn (now (s .entry)) types)) range (onPath (now (s .entry)) (now (path .entry))) (forAll levels (now (s .entry)) at) (writing p (now (buf .entry))) (writing (r .progress) (now (buf .exit))) (r .at) ⌝ }
+    ensures { λ r. ⌜ Stays kept (now (vars .entry)) (now (guards .entry)) (now (vars .exit)) (now (guards .exit)) ⌝ }
 {
+    let stays = Moved { at, progress: p };
     let binder = task_check::check_binder(s, at, levels);
     let Walked::Next(q, _) = binder else {
-        return Moved { at, progress: p };
+        return stays;
     };
     let number = task::number_at(s, q, 2);
     let Number::Value(n, first) = number else {
-        return Moved { at, progress: p };
+        return stays;
     };
     let preds = task_check::check_preds(s, first, n, levels);
     let Walked::Next(body, _) = preds else {
-        return Moved { at, progress: p };
+        return stays;
     };
-    flatten_constraint(s, body, levels, path.push(at), types, range, buf, p)
+    flatten_body(
+        s,
+        body,
+        levels,
+        at,
+        path,
+        types,
+        range,
+        buf,
+        p,
+        vars,
+        guards,
+        kept,
+    )
+}
+
+// The body of the ForAll at an offset, with the ForAll on the path and kept with it.
+fn flatten_body(
+    s: &[u8],
+    at: usize,
+    levels: usize,
+    offset: usize,
+    path: &[usize],
+    types: Datatypes,
+    range: Range,
+    buf: &mut [u8],
+    p: Progress,
+    vars: &mut [u8],
+    guards: &mut [u8],
+    kept: Kept,
+) -> Moved
+    requires { ⌜ (length (now path) + levels < 256) × Keeps (now s) types (now path) (now vars) (now guards) kept ⌝ }
+    ensures { λ r. ⌜ PutsUnder (clauseParts (encoderIn (now (s .entry)) types)) range (onPath (now (s .entry)) (now (path .entry) ++ offset ∷ [])) (decConstraint levels (now (s .entry)) at) (writing p (now (buf .entry))) (writing (r .progress) (now (buf .exit))) (r .at) ⌝ }
+    ensures { λ r. ⌜ Stays kept (now (vars .entry)) (now (guards .entry)) (now (vars .exit)) (now (guards .exit)) ⌝ }
+{
+    let own = assertion::extend(s, offset, types, vars, guards, kept);
+    let inner = Path::push(path, offset);
+    let offsets = inner.offsets;
+    let n = inner.depth;
+    flatten_constraint(
+        s,
+        at,
+        levels,
+        &offsets[..n],
+        types,
+        range,
+        buf,
+        p,
+        vars,
+        guards,
+        own,
+    )
 }

@@ -1,5 +1,5 @@
 -- What the parts of a file add up to: its declarations, its assertions, its script.
-use mathlib.Core.Path.{_≡_, sym, ap, _∙_, subst}
+use mathlib.Core.Path.{_≡_, refl, sym, ap, _∙_, subst}
 use mathlib.Core.List.{List, [], _∷_, _++_, map}
 use Prim.Native.Nat.{ℕ, _≤_}
 use native.Mathlib.Omega.{arith}
@@ -69,11 +69,11 @@ declarations-put file b r w w1 w2 w3 w4 u1 u2 u3 u4 us q e =
 
 -- ASSERTIONS
 
-pub assertions-put : (file os : List ℕ) (b : Bounds) (r : Range) (w w' : Writing) (q : ℕ) → os ≡ []
-    → PutsUnder (clauseParts (encoderIn (take (b .end) file) (typesOf b))) r (onPath (take (b .end) file) os) (constraintIn file b) w w' q
+pub assertions-put : (file : List ℕ) (b : Bounds) (r : Range) (w w' : Writing) (q : ℕ)
+    → PutsUnder (clauseParts (encoderIn (take (b .end) file) (typesOf b))) r (onPath (take (b .end) file) []) (constraintIn file b) w w' q
     → PutsAll (assertionParts file b) r (constraintIn file b) w w'
 unfolding PutsAll PutsUnder Puts assertionParts onPath
-assertions-put file os b r w w' q e u c p g = u [] 0 (rw e) c p g .1
+assertions-put file b r w w' q u c p g = u [] 0 refl c p g .1
 
 -- THE SCRIPT
 

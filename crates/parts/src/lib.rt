@@ -1,6 +1,6 @@
 // The parts of a script and the walk over those in a range, `write_smt_horn` of `smt_horn.rs`: the opening, the declarations, the blank line,
 // the assertions, the closing. Each is written into the buffer behind the last written byte, and counted.
-use constraint_check::Path;
+use assertion::Kept;
 use flatten::Moved;
 use flatten::Progress;
 use flatten::Range;
@@ -247,8 +247,23 @@ fn put_assertions(file: &[u8], b: Bounds, range: Range, buf: &mut [u8], p: Progr
         at: b.datatypes,
         end: b.constants,
     };
-    let path = Path::empty();
-    let moved = flatten::flatten_constraint(&file[..end], at, 256, path, types, range, buf, p);
+    let path = [0usize; 0];
+    let mut vars = [0u8; 16384];
+    let mut guards = [0u8; 16384];
+    let none = Kept::start();
+    let moved = flatten::flatten_constraint(
+        &file[..end],
+        at,
+        256,
+        &path,
+        types,
+        range,
+        buf,
+        p,
+        &mut vars,
+        &mut guards,
+        none,
+    );
     moved.progress
 }
 

@@ -32,7 +32,8 @@ use Rattle.output.specs.Emit.{most}
 use Rattle.flatten.specs.declared.Range.{Range}
 use Rattle.flatten.specs.declared.Progress.{Progress}
 use Rattle.flatten.specs.Parts.{Writing, writing, up, has, place, pass, put, puts, chosen}
-use Rattle.flatten.proofs.Totals.{totals, chosen-all, chosen-one, sets-laid}
+use Rattle.flatten.proofs.Totals.{totals, chosen-all, chosen-one}
+use Rattle.assertion.proofs.Keeping.{sets-laid}
 use Rattle.parts.specs.Whole.{fresh, PutsScript, Measured, Accepted}
 use Rattle.smt_horn.specs.declared.Surveyed.the-variants as survey-is
 use Rattle.smt_horn.specs.declared.Written.the-variants as written-is

@@ -1,5 +1,5 @@
 -- `write_assert`: without binders and with binders.
-use Rattle.assertion.proofs.Guards.{sized}
+
 use Rattle.assertion.proofs.Asserts.{assert-bare, assert-bound}
 use borrow.Author.Needs.{needs}
 use Rattle.assertion.proofs.write_assert.Statement.{statement}
@@ -12,7 +12,7 @@ bytes-requires : tie.Need-bytes-requires
 bytes-requires c κs = search needs
 
 write-implication-requires : tie.Need-write-implication-requires
-write-implication-requires c κs = search needs
+write-implication-requires c κs = (c .before .before .before .before .before .before .before .before .before .before .before .before .pre)
 
 slice-aggregate-bytes-2 : tie.Need-slice-aggregate-bytes-2
 slice-aggregate-bytes-2 c = search needs
@@ -24,7 +24,7 @@ same-length : tie.Need-same-length
 same-length c = search needs
 
 returns : tie.Need-returns
-returns c = assert-bare _ (c .before .before .before .before .before .before .before .before .before .before .before .before .before .before .before .before .before .before .args .s .now) (c .before .before .before .before .before .before .before .before .before .before .before .before .before .before .before .before .before .before .args .path .offsets) (c .before .before .before .before .before .before .before .before .before .before .before .before .before .before .before .before .before .before .args .path .depth) _ _ _ _ _ _ (c .before .before .before .before .before .before .before .before .before .before .if1 .taken) (c .before .before .before .before .before .before .before .before .before .before .before .before .before .bytes .ensures) (c .before .before .before .before .before .before .before .before .write-implication .ensures) (c .before .before .bytes2 .ensures)
+returns c = assert-bare _ _ _ _ _ _ _ _ _ (c .before .before .before .before .before .before .before .before .before .before .if1 .taken) (c .before .before .before .before .before .before .before .before .before .before .before .before .before .bytes .ensures) (c .before .before .before .before .before .before .before .before .write-implication .ensures) (c .before .before .bytes2 .ensures)
 
 slice-aggregate-bytes-3 : tie.Need-slice-aggregate-bytes-3
 slice-aggregate-bytes-3 c = search needs
@@ -33,7 +33,7 @@ bytes-requires-3 : tie.Need-bytes-requires-3
 bytes-requires-3 c κs = search needs
 
 write-vars-requires : tie.Need-write-vars-requires
-write-vars-requires c κs = search needs
+write-vars-requires c κs = (c .before .before .before .before .before .before .before .before .before .before .before .before .before .before .before .before .before .pre)
 
 slice-aggregate-bytes-4 : tie.Need-slice-aggregate-bytes-4
 slice-aggregate-bytes-4 c = search needs
@@ -42,7 +42,7 @@ bytes-requires-4 : tie.Need-bytes-requires-4
 bytes-requires-4 c κs = search needs
 
 write-implication-requires-2 : tie.Need-write-implication-requires-2
-write-implication-requires-2 c κs = search needs
+write-implication-requires-2 c κs = (c .before .before .before .before .before .before .before .before .before .before .before .before .before .before .before .before .before .before .before .before .before .before .before .before .before .before .pre)
 
 slice-aggregate-bytes-5 : tie.Need-slice-aggregate-bytes-5
 slice-aggregate-bytes-5 c = search needs
@@ -51,10 +51,10 @@ bytes-requires-5 : tie.Need-bytes-requires-5
 bytes-requires-5 c κs = search needs
 
 same-length-2 : tie.Need-same-length-2
-same-length-2 c = let h = c .before .before .before .before .before .before .before .before .before .before .before .before .before .before .before .before .before .write-vars .kept in let k = c .before .before .before .before .before .before .before .before .before .before .before .before .before .before .before .before .before .before .before .before .before .before .before .before .before .before .before .bytes .kept in search needs
+same-length-2 c = let h1 = (c .before .before .before .before .before .before .before .before .before .before .before .before .before .before .before .before .before .before .before .before .before .before .before .before .before .before .before .bytes .kept) in let h2 = (c .before .before .before .before .before .before .before .before .before .before .before .before .before .before .before .before .before .before .before .before .before .bytes3 .kept) in let h3 = (c .before .before .before .before .before .before .before .before .before .before .before .before .before .before .before .before .before .write-vars .kept) in let h4 = (c .before .before .before .before .before .before .before .before .before .before .before .before .bytes4 .kept) in let h5 = (c .before .before .before .before .before .before .before .before .write-implication2 .kept) in let h6 = (c .before .before .bytes5 .kept) in search needs
 
 returns-2 : tie.Need-returns-2
-returns-2 c = assert-bound _ (c .before .before .before .before .before .before .before .before .before .before .before .before .before .before .before .before .before .before .before .before .before .before .before .before .before .before .before .before .before .before .before .before .args .s .now) (c .before .before .before .before .before .before .before .before .before .before .before .before .before .before .before .before .before .before .before .before .before .before .before .before .before .before .before .before .before .before .before .before .args .path .offsets) (c .before .before .before .before .before .before .before .before .before .before .before .before .before .before .before .before .before .before .before .before .before .before .before .before .before .before .before .before .before .before .before .before .args .path .depth) _ _ _ _ _ _ _ _ _ (c .before .before .before .before .before .before .before .before .before .before .before .before .before .before .before .before .before .before .before .before .before .before .before .before .if1 .left) (sized (c .before .before .before .before .before .before .before .before .before .before .before .before .before .before .before .before .before .before .before .before .before .before .before .before .before .before .before .before .before .before .before .before .args .path .offsets) _ (c .before .before .before .before .before .before .before .before .before .before .before .before .before .before .before .before .before .before .before .before .before .before .before .before .before .before .before .before .before .before .before .before .good .1 .0 .1 .1 .0 .1 .0 .1) (c .before .before .before .before .before .before .before .before .before .before .before .before .before .before .before .before .before .before .before .before .before .before .before .before .before .before .before .before .before .before .before .before .pre)) (c .before .before .before .before .before .before .before .before .before .before .before .before .before .before .before .before .before .before .before .before .before .before .before .before .before .before .before .bytes .ensures) (c .before .before .before .before .before .before .before .before .before .before .before .before .before .before .before .before .before .before .before .before .before .bytes3 .ensures) (c .before .before .before .before .before .before .before .before .before .before .before .before .before .before .before .before .before .write-vars .ensures) (c .before .before .before .before .before .before .before .before .before .before .before .before .bytes4 .ensures) (c .before .before .before .before .before .before .before .before .write-implication2 .ensures) (c .before .before .bytes5 .ensures)
+returns-2 c = assert-bound _ _ _ _ _ _ _ _ _ _ _ _ (c .before .before .before .before .before .before .before .before .before .before .before .before .before .before .before .before .before .before .before .before .before .before .before .before .if1 .left) (c .before .before .before .before .before .before .before .before .before .before .before .before .before .before .before .before .before .before .before .before .before .before .before .before .before .before .before .bytes .ensures) (c .before .before .before .before .before .before .before .before .before .before .before .before .before .before .before .before .before .before .before .before .before .bytes3 .ensures) (c .before .before .before .before .before .before .before .before .before .before .before .before .before .before .before .before .before .write-vars .ensures) (c .before .before .before .before .before .before .before .before .before .before .before .before .bytes4 .ensures) (c .before .before .before .before .before .before .before .before .write-implication2 .ensures) (c .before .before .bytes5 .ensures)
 
 pub write-assert-spec : {M : Type 1} → statement M
 write-assert-spec =

@@ -1,60 +1,40 @@
--- `write_vars`: each turn sends one of the binders that are left.
+-- `write_vars`: what is kept of the binders is what the path has.
+use native.Mathlib.Omega.{arith}
+use lib.ListN.{length-take}
+use Rattle.assertion.proofs.Keeping.{kept-vars}
 use borrow.Author.Needs.{needs}
-use mathlib.Core.Path.{_≡_, refl}
-use Prim.Native.Nat.{_-_, _≤_}
-use lib.ListN.{length}
-use Rattle.output.specs.Emit.{output, Sends}
-use Rattle.smt_sort.specs.Section.{encoderIn}
-use Rattle.assertion.proofs.Guards.{sized, vars-steps, Along, along-start, along-more, along-end, binder-runs}
 use Rattle.assertion.proofs.write_vars.Statement.{statement}
 use Rattle.assertion.proofs.write_vars.Tie as tie
 
-abbrev Inv-loop : tie.InvT-loop
-Inv-loop s types buf₀ n offsets i₀ sent₀ buf i sent = Along (vars-steps (encoderIn s types)) s offsets n (output buf₀ (sent₀ .len)) i (output buf (sent .len)) × (length buf ≡ length buf₀) × (n ≤ length offsets)
+slice-aggregate-bytes : tie.Need-slice-aggregate-bytes
+slice-aggregate-bytes c = let h = (c .before .before .before .before .before .before .before .before .pre) .fits .inside-vars in simp length-take (omega arith)
 
-abbrev μ-loop : tie.MeasureT-loop
-μ-loop s types buf₀ n offsets i₀ sent₀ buf i sent = n - i
+bytes-requires : tie.Need-bytes-requires
+bytes-requires c κs = search needs
 
-loop-holds : tie.Need-loop-holds Inv-loop μ-loop
-loop-holds c = let h = sized (c .before .before .before .args .path .offsets) _ (c .before .before .before .good .1 .0 .1 .1 .0 .1 .0 .1) (c .before .before .before .pre) in (along-start _ _ _ _ _ h, refl, h)
+same-length : tie.Need-same-length
+same-length c = search needs
 
-mul-at : tie.Need-mul-at Inv-loop μ-loop
-mul-at c = search needs
+returns : tie.Need-returns
+returns c = kept-vars _ _ _ _ _ _ (c .before .before .before .before .before .before .before .before .before .before .before .pre) (c .before .before .before .before .before .if1 .taken) _ _ (c .before .before .bytes .ensures)
 
-array-read-at : tie.Need-array-read-at Inv-loop μ-loop
-array-read-at c = search needs
+write-each-var-requires : tie.Need-write-each-var-requires
+write-each-var-requires c κs = search needs
 
-write-binder-requires : tie.Need-write-binder-requires Inv-loop μ-loop
-write-binder-requires c κs = search needs
+same-length-2 : tie.Need-same-length-2
+same-length-2 c = search needs
 
-add-i : tie.Need-add-i Inv-loop μ-loop
-add-i c = search needs
-
-loop-less : tie.Need-loop-less Inv-loop μ-loop
-loop-less c = search needs
-
-loop-again : tie.Need-loop-again Inv-loop μ-loop
-loop-again c = (along-more _ _ _ _ _ _ _ _ (c .before .before .before .before .before .loop-test .taken) (c .before .before .before .before .before .before .loop .inv .0) (binder-runs _ _ _ _ _ _ (c .before .before .before .write-binder .ensures)), search needs, c .before .before .before .before .before .before .loop .inv .2)
-
-same-length : tie.Need-same-length Inv-loop μ-loop
-same-length c = c .before .loop .inv .1
-
-returns : tie.Need-returns Inv-loop μ-loop
-unfolding Sends
-returns c = along-end _ _ _ _ _ _ _ (c .loop-test .left) (c .before .loop .inv .0)
+returns-2 : tie.Need-returns-2
+returns-2 c = search needs
 
 pub write-vars-spec : {M : Type 1} → statement M
 write-vars-spec =
     tie.close
     (tie.spec
-    Inv-loop
-    μ-loop
-    loop-holds
-    mul-at
-    array-read-at
-    write-binder-requires
-    add-i
-    loop-less
-    loop-again
+    slice-aggregate-bytes
+    bytes-requires
     same-length
-    returns)
+    returns
+    write-each-var-requires
+    same-length-2
+    returns-2)

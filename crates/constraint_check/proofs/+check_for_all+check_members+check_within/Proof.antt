@@ -2,7 +2,8 @@
 use native.Mathlib.Omega.{arith}
 use Prim.Native.Nat.{_+_, _*_}
 use mathlib.Core.Path.{refl}
-use Rattle.constraint_check.specs.Around.{entries, namesOn}
+use Rattle.constraint_check.specs.Around.{namesOn}
+use Rattle.constraint_check.proofs.Names.{push-length, push-count}
 use Rattle.constraint_check.proofs.Constraints.{constraint-none, constraint-pred, constraint-conj, constraint-for-all, constraint-refused, for-all-unnamed, for-all-sort-stops, for-all-uncounted, for-all-preds-stop, for-all-walks, Going, going-starts, going-stops, going-room, going-goes, going-ends}
 use borrow.Author.Needs.{needs}
 use Prim.Native.Nat.{ℕ, _<_}
@@ -31,49 +32,49 @@ use Rattle.task_check.proofs.lower.Reads as lower-reads
 use Rattle.constraint_check.proofs.+check_for_all+check_members+check_within.{statement}
 use Rattle.constraint_check.proofs.+check_for_all+check_members+check_within.Tie.{close}
 
-abbrev μ-check-for-all : Measures 1 check-for-all-kinds.ps ℕ
+abbrev μ-check-for-all : Measures 2 check-for-all-kinds.ps ℕ
 μ-check-for-all κs a = 2 * a .1 .1 .0 + 1
 
-abbrev μ-check-members : Measures 1 check-members-kinds.ps ℕ
+abbrev μ-check-members : Measures 2 check-members-kinds.ps ℕ
 μ-check-members κs a = 2 * a .1 .1 .1 .0 + 1
 
-abbrev μ-check-within : Measures 1 check-within-kinds.ps ℕ
+abbrev μ-check-within : Measures 2 check-within-kinds.ps ℕ
 μ-check-within κs a = 2 * a .1 .1 .0
 
-abbrev check-for-all-at : ℕ → In 1 check-for-all-kinds.ps
+abbrev check-for-all-at : ℕ → In 2 check-for-all-kinds.ps
 check-for-all-at t =
-    and 1 check-for-all-kinds.ps (is 1 check-for-all-kinds.ps μ-check-for-all t) check-for-all.Pre
+    and 2 check-for-all-kinds.ps (is 2 check-for-all-kinds.ps μ-check-for-all t) check-for-all.Pre
 
-abbrev check-for-all-below : ℕ → In 1 check-for-all-kinds.ps
+abbrev check-for-all-below : ℕ → In 2 check-for-all-kinds.ps
 check-for-all-below t =
     and
-    1
+    2
     check-for-all-kinds.ps
-    (falls 1 check-for-all-kinds.ps _<_ μ-check-for-all t)
+    (falls 2 check-for-all-kinds.ps _<_ μ-check-for-all t)
     check-for-all.Pre
 
-abbrev check-members-at : ℕ → In 1 check-members-kinds.ps
+abbrev check-members-at : ℕ → In 2 check-members-kinds.ps
 check-members-at t =
-    and 1 check-members-kinds.ps (is 1 check-members-kinds.ps μ-check-members t) check-members.Pre
+    and 2 check-members-kinds.ps (is 2 check-members-kinds.ps μ-check-members t) check-members.Pre
 
-abbrev check-members-below : ℕ → In 1 check-members-kinds.ps
+abbrev check-members-below : ℕ → In 2 check-members-kinds.ps
 check-members-below t =
     and
-    1
+    2
     check-members-kinds.ps
-    (falls 1 check-members-kinds.ps _<_ μ-check-members t)
+    (falls 2 check-members-kinds.ps _<_ μ-check-members t)
     check-members.Pre
 
-abbrev check-within-at : ℕ → In 1 check-within-kinds.ps
+abbrev check-within-at : ℕ → In 2 check-within-kinds.ps
 check-within-at t =
-    and 1 check-within-kinds.ps (is 1 check-within-kinds.ps μ-check-within t) check-within.Pre
+    and 2 check-within-kinds.ps (is 2 check-within-kinds.ps μ-check-within t) check-within.Pre
 
-abbrev check-within-below : ℕ → In 1 check-within-kinds.ps
+abbrev check-within-below : ℕ → In 2 check-within-kinds.ps
 check-within-below t =
     and
-    1
+    2
     check-within-kinds.ps
-    (falls 1 check-within-kinds.ps _<_ μ-check-within t)
+    (falls 2 check-within-kinds.ps _<_ μ-check-within t)
     check-within.Pre
 
 -- what the calls in it ask and give
@@ -145,23 +146,29 @@ check-for-all-returns-4 t c = search for-all-preds-stop
 check-for-all-push-requires : (t : ℕ) → check-for-all-lts.Need-push-requires (check-for-all-calls t) (check-for-all-at t) check-for-all.Post
 check-for-all-push-requires t c κs = search needs
 
+check-for-all-array-share-prefix-offsets : (t : ℕ) → check-for-all-lts.Need-array-share-prefix-offsets (check-for-all-calls t) (check-for-all-at t) check-for-all.Post
+check-for-all-array-share-prefix-offsets t c = let r = c .before .before .before .before .before .before .before .before .before .before .before .before .before .before .before .before .before .before .before .before .pre .1 in omega arith
+
+check-for-all-slice-aggregate-check-within : (t : ℕ) → check-for-all-lts.Need-slice-aggregate-check-within (check-for-all-calls t) (check-for-all-at t) check-for-all.Post
+check-for-all-slice-aggregate-check-within t c = push-count (c .before .before .before .before .before .before .before .before .before .before .before .before .before .before .before .before .before .before .before .before .before .args .path .now) _ _ _ (c .before .before .push .ensures)
+
 check-for-all-check-within-requires : (t : ℕ) → check-for-all-lts.Need-check-within-requires (check-for-all-calls t) (check-for-all-at t) check-for-all.Post
-check-for-all-check-within-requires t c κs = let m = c .before .before .before .before .before .before .before .before .before .before .before .before .before .before .before .before .before .before .pre .0 in let r = c .before .before .before .before .before .before .before .before .before .before .before .before .before .before .before .before .before .before .pre .1 in let d = c .push .ensures .0 in (omega arith, omega arith)
+check-for-all-check-within-requires t c κs = let m = c .before .before .before .before .before .before .before .before .before .before .before .before .before .before .before .before .before .before .before .before .before .pre .0 in let r = c .before .before .before .before .before .before .before .before .before .before .before .before .before .before .before .before .before .before .before .before .before .pre .1 in let l = push-length (c .before .before .before .before .before .before .before .before .before .before .before .before .before .before .before .before .before .before .before .before .before .args .path .now) _ _ _ (c .before .before .push .ensures) in (omega arith, omega arith)
 
 check-for-all-lower-requires : (t : ℕ) → check-for-all-lts.Need-lower-requires (check-for-all-calls t) (check-for-all-at t) check-for-all.Post
 check-for-all-lower-requires t c κs = search needs
 
 check-for-all-binder-fault-requires : (t : ℕ) → check-for-all-lts.Need-binder-fault-requires (check-for-all-calls t) (check-for-all-at t) check-for-all.Post
-check-for-all-binder-fault-requires t c κs = let r = c .before .before .before .before .before .before .before .before .before .before .before .before .before .before .before .before .before .before .before .before .pre .1 in omega arith
+check-for-all-binder-fault-requires t c κs = search needs
 
 check-for-all-after-requires : (t : ℕ) → check-for-all-lts.Need-after-requires (check-for-all-calls t) (check-for-all-at t) check-for-all.Post
 check-for-all-after-requires t c κs = search needs
 
 check-for-all-returns-5 : (t : ℕ) → check-for-all-lts.Need-returns-5 (check-for-all-calls t) (check-for-all-at t) check-for-all.Post
-check-for-all-returns-5 t c = for-all-walks _ _ (entries (c .before .before .before .before .before .before .before .before .before .before .before .before .before .before .before .before .before .before .before .before .before .before .args .path)) _ _ (c .before .before .before .before .before .before .before .before .before .before .before .before .before .before .before .before .before .before .before .before .read-name .ensures) _ _ (c .before .before .before .before .before .before .before .before .before .before .before .before .before .before .before .before .before .before .name .given .1) _ (c .before .before .before .before .before .before .before .before .before .before .before .before .before .before .before .before .check-sort .ensures) _ _ (c .before .before .before .before .before .before .before .before .before .before .before .before .before .before .sort .given .1) _ (c .before .before .before .before .before .before .before .before .before .before .before .before .number-at .ensures) _ _ (c .before .before .before .before .before .before .before .before .before .before .count .given .1) _ (c .before .before .before .before .before .before .before .before .check-preds .ensures) _ _ _ _ _ _ _ (c .before .before .before .before .before .before .preds .given .1) (c .before .before .before .before .push .ensures .1) (c .before .before .before .check-within .ensures) (c .before .before .lower .ensures) (c .before .binder-fault .ensures) (c .after .ensures)
+check-for-all-returns-5 t c = for-all-walks _ _ (c .before .before .before .before .before .before .before .before .before .before .before .before .before .before .before .before .before .before .before .before .before .before .before .before .before .args .path .now) _ _ (c .before .before .before .before .before .before .before .before .before .before .before .before .before .before .before .before .before .before .before .before .before .before .read-name .ensures) _ _ (c .before .before .before .before .before .before .before .before .before .before .before .before .before .before .before .before .before .before .before .before .name .given .1) _ (c .before .before .before .before .before .before .before .before .before .before .before .before .before .before .before .before .before .before .check-sort .ensures) _ _ (c .before .before .before .before .before .before .before .before .before .before .before .before .before .before .before .before .sort .given .1) _ (c .before .before .before .before .before .before .before .before .before .before .before .before .before .before .number-at .ensures) _ _ (c .before .before .before .before .before .before .before .before .before .before .before .before .count .given .1) _ (c .before .before .before .before .before .before .before .before .before .before .check-preds .ensures) _ _ _ _ _ _ _ (c .before .before .before .before .before .before .before .before .preds .given .1) (c .before .before .before .before .before .before .push .ensures .1) (c .before .before .before .check-within .ensures) (c .before .before .lower .ensures) (c .before .binder-fault .ensures) (c .after .ensures)
 
 abbrev check-members-Inv-loop : check-members-lts.InvT-loop
-check-members-Inv-loop s at n levels path p₀ left₀ fault₀ heads₀ p left fault heads = Going s levels (namesOn s (entries path)) n at left p fault heads
+check-members-Inv-loop s at n levels path p₀ left₀ fault₀ heads₀ p left fault heads = Going s levels (namesOn s path) n at left p fault heads
 
 abbrev check-members-μ-loop : check-members-lts.MeasureT-loop
 check-members-μ-loop s at n levels path p₀ left₀ fault₀ heads₀ p left fault heads = left
@@ -267,6 +274,8 @@ pub +check-for-all+check-members+check-within-spec : {M : Type 1} → statement 
     (check-for-all-enum-told-4 t)
     (check-for-all-returns-4 t)
     (check-for-all-push-requires t)
+    (check-for-all-array-share-prefix-offsets t)
+    (check-for-all-slice-aggregate-check-within t)
     (check-for-all-check-within-requires t)
     (check-for-all-lower-requires t)
     (check-for-all-binder-fault-requires t)

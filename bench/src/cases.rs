@@ -1,0 +1,117 @@
+//! The task files that are measured. Each case but `small` can be had at so many quarters of its size: every count that is named below, and
+//! the bytes that a case may fill, times that share; `datatypes-few` keeps its datatypes.
+use oracle::chance::{Chance, SEED};
+use oracle::draft::{Draft, Plan, Spot};
+use oracle::faults::any_kind;
+use oracle::limits::nested;
+use oracle::task::{accepted, LONGEST_FILE};
+use oracle::words::{bytes, packed, USUAL};
+use std::iter::repeat_with;
+
+/// The quarters of a case's whole size.
+pub const WHOLE: usize = 4;
+
+/// A case: its name, whether its growth is measured, and its files at so many quarters of its size.
+pub type Case = (&'static str, bool, fn(usize) -> Vec<Vec<u8>>);
+
+pub const CASES: [Case; 11] = [
+    ("deep", true, |quarters| vec![deep(quarters)]),
+    ("wide", true, |quarters| vec![packed(&format!("h: {}", heads(share(WIDE_HEADS, quarters))))]),
+    ("wide-kvars", false, |quarters| vec![filled(quarters, "v: 'k0 #1 0 h: 2 'x 0 #2 P P 1 #@", || "0 0 'k0 #1 5 'x".to_string())]),
+    ("expressions", true, |quarters| vec![expressions(quarters)]),
+    ("datatypes", true, |quarters| vec![datatypes(quarters, share(MANY_DATATYPES, quarters))]),
+    ("datatypes-few", false, |quarters| vec![datatypes(quarters, FEW_DATATYPES)]),
+    ("applications", true, |quarters| vec![applications(share(APPS, quarters), share(VARIABLES, quarters))]),
+    ("names", true, |quarters| vec![filled(quarters, "h: 0 1 13 #@", || "17 0 5 'merge #2 5 'left 5 'right".to_string())]),
+    ("numerals", false, |quarters| vec![numerals(quarters)]),
+    ("generated", false, generated),
+    ("small", false, |_| vec![include_bytes!("../../crates/hornscript/stdin").to_vec()]),
+];
+
+const DEEP_FORALLS: usize = 200;
+const DEEP_HEADS: usize = 10_000;
+const WIDE_HEADS: usize = 14_000;
+const MANY_DATATYPES: usize = 1500;
+const FEW_DATATYPES: usize = 20;
+const SORTS_OF_A_KVAR: usize = 4;
+const APPS: usize = 240;
+const VARIABLES: usize = 9000;
+const GENERATED: usize = 1000;
+
+/// The pieces of the drafts that expressions are taken from, and the bytes that each of these has at least.
+const PIECES: usize = 1500;
+const LARGE: usize = 500;
+
+fn share(count: usize, quarters: usize) -> usize { count * quarters / WHOLE }
+
+/// The words before, with as many items behind them as fit into so many quarters of the longest file; `@` stands for their number.
+fn filled(quarters: usize, before: &str, item: impl FnMut() -> String) -> Vec<u8> {
+    let mut left = share(LONGEST_FILE, quarters) - packed(&before.replace('@', "0")).len();
+    let fits = |item: &String| {
+        let rest = left.checked_sub(bytes(item, USUAL).expect("words").len());
+        left = rest.unwrap_or(left);
+        rest.is_some()
+    };
+    let items: Vec<String> = repeat_with(item).take_while(fits).collect();
+    packed(&format!("{} {}", before.replace('@', &items.len().to_string()), items.join(" ")))
+}
+
+fn as_words(bytes: &[u8]) -> String { bytes.iter().map(|byte| format!("{byte} ")).collect() }
+
+/// Words for a Conj of so many heads that are literally false.
+fn heads(many: usize) -> String { format!("1 #{many} {}", "0 F ".repeat(many)) }
+
+/// Whole, it is a file that was recorded.
+fn deep(quarters: usize) -> Vec<u8> {
+    let file = packed(&format!("h: {}", nested(share(DEEP_FORALLS, quarters), &heads(share(DEEP_HEADS, quarters)))));
+    assert!(quarters < WHOLE || file == include_bytes!("../../crates/replay/data/deep.task"));
+    file
+}
+
+fn expressions(quarters: usize) -> Vec<u8> {
+    let (mut chance, pieces) = (Chance::new(SEED), share(PIECES, quarters));
+    filled(quarters, "h: 1 #@", || format!("0 1 {}", as_words(&expression(&mut chance, pieces))))
+}
+
+/// The longest expression of a draft, if it is a large one; else that of another.
+fn expression(chance: &mut Chance, pieces: usize) -> Vec<u8> {
+    loop {
+        let draft = Draft::new(chance, Plan { pieces, items: 0, target: 0, chain: false });
+        let exprs = draft.places.iter().filter(|place| place.spot == Spot::Piece('E'));
+        if let Some(place) = exprs.max_by_key(|place| place.span.len()).filter(|place| place.span.len() >= LARGE) {
+            return draft.sections[place.section][place.span.clone()].to_vec();
+        }
+    }
+}
+
+/// So many datatypes with one constructor of one field, and KVars of sorts that are some of them.
+fn datatypes(quarters: usize, many: usize) -> Vec<u8> {
+    let mut chance = Chance::new(SEED);
+    let declared: String = (0..many).map(|i| format!("'D{i} #0 #1 'c{i} #1 'f 0 ")).collect();
+    filled(quarters, &format!("d: {declared} v:"), || {
+        let sorts: String = (0..SORTS_OF_A_KVAR).map(|_| format!("11 'D{} #0 ", chance.below(many))).collect();
+        format!("'k #{SORTS_OF_A_KVAR} {sorts}")
+    })
+}
+
+/// So many Apps of one argument, each the head of the one around it, and in the innermost an And of so many variables as the head.
+fn applications(apps: usize, variables: usize) -> Vec<u8> {
+    let [before, members, behind] = [("17 0 ", apps), ("5 'x ", variables), ("#1 5 'y ", apps)].map(|(words, many)| words.repeat(many));
+    packed(&format!("h: 0 1 {before} 13 #{variables} {members} {behind}"))
+}
+
+/// Numerals from 2^127 on, which have 39 digits.
+fn numerals(quarters: usize) -> Vec<u8> {
+    let mut chance = Chance::new(SEED);
+    filled(quarters, "h: 0 1 13 #@", || {
+        let numeral: [u8; 16] = std::array::from_fn(|i| if i < 15 { chance.below(256) } else { 128 + chance.below(128) } as u8);
+        format!("0 {}", as_words(&numeral))
+    })
+}
+
+/// Accepted files of all the kinds that the rendering is compared on.
+fn generated(quarters: usize) -> Vec<Vec<u8>> {
+    let mut chance = Chance::new(SEED);
+    let files = repeat_with(|| any_kind(&mut chance).2.case(&mut chance).file);
+    files.filter(|file| accepted(file).is_ok()).take(share(GENERATED, quarters)).collect()
+}

@@ -1,0 +1,97 @@
+/* Calls the archive from C on a task file and compares with its script: calls TASK SCRIPT. Writes `N passed, M failed`. */
+#include "jiggerreef.h"
+
+#include <stdio.h>
+#include <string.h>
+
+enum { MOST = 65536, FILLED = 0xa5 };
+
+static int passed, failed;
+
+static void expect(int holds, const char *what) {
+    if (holds) {
+        passed += 1;
+    } else {
+        failed += 1;
+        printf("failed: %s\n", what);
+    }
+}
+
+static size_t contents(const char *path, uint8_t *bytes) {
+    FILE *file = fopen(path, "rb");
+    size_t n = file ? fread(bytes, 1, MOST, file) : 0;
+    if (file) {
+        fclose(file);
+    }
+    return n;
+}
+
+/* whether all bytes from `from` to `to` are as they were filled */
+static int unchanged(const uint8_t *buf, size_t from, size_t to) {
+    for (size_t i = from; i < to; i++) {
+        if (buf[i] != FILLED) {
+            return 0;
+        }
+    }
+    return 1;
+}
+
+static void surveyed(const uint8_t *file, size_t n, size_t script_length) {
+    size_t sizes[4] = {0, 0, 0, 0};
+    expect(jiggerreef_survey(file, n, sizes) == 0, "survey accepts the task");
+    expect(sizes[0] == 7 && sizes[1] == 2 && sizes[2] == script_length && sizes[3] == 83, "survey's four numbers");
+}
+
+/* the parts one behind the other are the script, each in a buffer of just its length */
+static void joined(const uint8_t *file, size_t n, const uint8_t *script, size_t m) {
+    static uint8_t buf[MOST];
+    size_t at = 0, length = 0;
+    for (size_t i = 0; i < 7; i++) {
+        memset(buf, FILLED, MOST);
+        expect(jiggerreef_part(file, n, i, buf, MOST, &length) == 0, "a part is written");
+        expect(at + length <= m && memcmp(buf, script + at, length) == 0, "a part is its piece of the script");
+        expect(unchanged(buf, length, MOST), "bytes behind a part are unchanged");
+        at += length;
+        memset(buf, FILLED, MOST);
+        expect(jiggerreef_part(file, n, i, buf, length - 1, &length) == 9, "a buffer one byte short is refused with 9");
+        expect(unchanged(buf, 0, MOST), "a refused part changes no byte");
+    }
+    expect(at == m, "the parts joined are the script");
+    expect(jiggerreef_part(file, n, 7, buf, MOST, &length) == 8, "part 7 of 7 is refused with 8");
+    expect(jiggerreef_part(file, n, SIZE_MAX, buf, MOST, &length) == 8, "the largest index is refused with 8");
+}
+
+static void written(const uint8_t *file, size_t n, const uint8_t *script, size_t m) {
+    static uint8_t buf[MOST];
+    size_t length = 12345;
+    memset(buf, FILLED, MOST);
+    expect(jiggerreef_script(file, n, buf, m - 1, &length) == 9, "a buffer one byte short is refused with 9");
+    expect(unchanged(buf, 0, MOST) && length == 12345, "a refusal changes no byte and stores no length");
+    expect(jiggerreef_script(file, n, buf, m, &length) == 0 && length == m, "a buffer of just the length is enough");
+    expect(memcmp(buf, script, m) == 0 && unchanged(buf, m, MOST), "the script, and bytes behind it unchanged");
+}
+
+/* no task file: every call answers 1 and stores nothing */
+static void refused(void) {
+    uint8_t file[1] = {0}, buf[1] = {FILLED};
+    size_t sizes[4] = {1, 2, 3, 4}, length = 5;
+    expect(jiggerreef_survey(file, 0, sizes) == 1 && jiggerreef_survey(file, 1, sizes) == 1, "survey refuses with 1");
+    expect(sizes[0] == 1 && sizes[1] == 2 && sizes[2] == 3 && sizes[3] == 4, "a refused survey stores nothing");
+    expect(jiggerreef_part(file, 1, 0, buf, 1, &length) == 1, "part refuses with 1");
+    expect(jiggerreef_script(file, 1, buf, 0, &length) == 1, "script refuses with 1, before a short buffer");
+    expect(buf[0] == FILLED && length == 5, "a refusal changes nothing");
+}
+
+int main(int argc, char **argv) {
+    static uint8_t file[MOST], script[MOST];
+    if (argc != 3) {
+        return 2;
+    }
+    size_t n = contents(argv[1], file), m = contents(argv[2], script);
+    surveyed(file, n, m);
+    joined(file, n, script, m);
+    written(file, n, script, m);
+    refused();
+    printf("%d passed, %d failed\n", passed, failed);
+    return failed != 0;
+}

@@ -1,0 +1,40 @@
+/* Jiggerreef's archive for C: a checking task of Flux to an SMT-LIB 2.6 script for a Horn solver, or to one numbered refusal.
+ *
+ * What the caller has to see to, and all of it:
+ *   - `file` points to `file_len` bytes that can be read, and `buf` to `buf_len` bytes that can be written. Neither is NULL, even
+ *     where the length is 0. `sizes` points to four values, `length` to one, aligned.
+ *   - `buf` shares no byte with `file`, and `sizes` and `length` share none with either.
+ *   - The thread has 1.5 MB of stack left, which the deepest task needs (254 ForAlls inside each other); there is no heap.
+ * The bytes, the index and the lengths are free: there is nothing to test before a call. An uninitialised buffer is fine.
+ *
+ * A call answers 0 and stores its values, or it answers the number of its refusal, stores nothing and changes no byte of `buf`.
+ *   1       no task file: wrong length, mark or offsets           5  a form that has no text
+ *   2       a piece that leaves its section, an unknown code ..   6  a body with another number of arguments than inputs
+ *   3       a piece below the 256th level                         7  a ForAll named like one around it
+ *   4       a name, comment or string that could not be read back
+ *   8       no such part                                          9  the buffer is too short
+ * docs/REFUSALS.md has each of them at length. The calls keep nothing and share nothing: they may run at the same time in several threads. */
+#ifndef JIGGERREEF_H
+#define JIGGERREEF_H
+
+#include <stddef.h>
+#include <stdint.h>
+
+#ifdef __cplusplus
+extern "C" {
+#endif
+
+/* Stores the numbers of parts and of assertions, the length of the script and that of its longest part; or answers 1 to 7. */
+uint8_t jiggerreef_survey(const uint8_t *file, size_t file_len, size_t sizes[4]);
+
+/* Writes part `index` to the buffer's start and stores its length; or answers 1 to 7, then 8, then 9. Bytes behind the part are unchanged. */
+uint8_t jiggerreef_part(const uint8_t *file, size_t file_len, size_t index, uint8_t *buf, size_t buf_len, size_t *length);
+
+/* Writes the script to the buffer's start and stores its length; or answers 1 to 7, then 9. Bytes behind the script are unchanged. */
+uint8_t jiggerreef_script(const uint8_t *file, size_t file_len, uint8_t *buf, size_t buf_len, size_t *length);
+
+#ifdef __cplusplus
+}
+#endif
+
+#endif

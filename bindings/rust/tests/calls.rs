@@ -1,0 +1,81 @@
+//! The three calls on the scope document's case and on bytes that are no task.
+use jiggerreef::{part, script, survey, Sizes};
+
+const TASK: &[u8] = include_bytes!("../../../crates/hornscript/stdin");
+const SCRIPT: &[u8] = include_bytes!("../../../crates/hornscript/stdout");
+const FILLED: u8 = 0xa5;
+
+fn number<T>(answer: Result<T, jiggerreef::Refusal>) -> Option<u8> {
+    answer.err().map(|refusal| refusal.number())
+}
+
+#[test]
+fn survey_gives_the_numbers_of_the_script() {
+    assert_eq!(survey(TASK), Ok(Sizes { parts: 7, assertions: 2, bytes: SCRIPT.len(), longest: 83 }));
+}
+
+#[test]
+fn parts_joined_are_the_script() {
+    let mut joined: Vec<u8> = Vec::new();
+    for index in 0..7 {
+        let mut buf = [FILLED; 512];
+        let length = part(TASK, index, &mut buf).unwrap();
+        assert!(buf[length..].iter().all(|byte| *byte == FILLED));
+        joined.extend(&buf[..length]);
+        let mut short = vec![FILLED; length - 1];
+        assert_eq!(number(part(TASK, index, &mut short)), Some(9));
+        assert!(short.iter().all(|byte| *byte == FILLED));
+    }
+    assert_eq!(joined, SCRIPT);
+    assert_eq!([7, usize::MAX].map(|index| number(part(TASK, index, &mut [0; 512]))), [Some(8); 2]);
+}
+
+#[test]
+fn a_script_needs_its_length_and_leaves_the_rest() {
+    let mut buf = vec![FILLED; SCRIPT.len() + 100];
+    assert_eq!(number(script(TASK, &mut buf[..SCRIPT.len() - 1])), Some(9));
+    assert!(buf.iter().all(|byte| *byte == FILLED));
+    assert_eq!(script(TASK, &mut buf[..SCRIPT.len()]), Ok(SCRIPT.len()));
+    assert_eq!(script(TASK, &mut buf), Ok(SCRIPT.len()));
+    assert_eq!(&buf[..SCRIPT.len()], SCRIPT);
+    assert!(buf[SCRIPT.len()..].iter().all(|byte| *byte == FILLED));
+}
+
+#[test]
+fn no_task_is_refused_by_every_call_alike() {
+    for file in [&b""[..], b"no task", &TASK[..107], &[0; 60_001]] {
+        assert_eq!([number(survey(file)), number(part(file, 0, &mut [])), number(script(file, &mut []))], [Some(1); 3]);
+    }
+}
+
+#[test]
+fn a_line_break_in_a_comment_is_refused() {
+    let comment = b"\n(check-sat)";
+    let mut file = vec![comment.len() as u8, 0];
+    file.extend(comment);
+    let at = file.len() as u32;
+    file.extend([1, 0, 0]);
+    [0, at, at, at, at, at].iter().for_each(|offset| file.extend(offset.to_le_bytes()));
+    file.extend(b"HORN");
+    assert_eq!(number(script(&file, &mut [0; 512])), Some(4));
+    file[2] = b' ';
+    assert_eq!(survey(&file).map(|sizes| sizes.parts), Ok(3));
+}
+
+/// 254 ForAlls inside each other, the most that there may be: a test's thread has 2 MB of stack.
+#[test]
+fn the_deepest_task_fits_a_thread() {
+    let mut file = Vec::new();
+    for i in 0..254 {
+        let name = format!("x{i}");
+        file.extend([2, name.len() as u8]);
+        file.extend(name.as_bytes());
+        file.extend([0, 0, 0]);
+    }
+    file.extend([0, 0, 1, b'k', 0, 0]);
+    file.extend([0; 24]);
+    file.extend(b"HORN");
+    let sizes = survey(&file).unwrap();
+    assert_eq!((sizes.parts, sizes.assertions), (4, 1));
+    assert_eq!(script(&file, &mut vec![0; sizes.bytes]), Ok(sizes.bytes));
+}

@@ -1,0 +1,21 @@
+-- `jiggerreef_script`: what `script` answers.
+use Rattle.jiggerreef.proofs.Stored.{same-answer}
+use borrow.Author.Needs.{needs}
+use Rattle.jiggerreef.proofs.jiggerreef_script.Statement.{statement}
+use Rattle.jiggerreef.proofs.jiggerreef_script.Tie as tie
+
+script-requires : tie.Need-script-requires
+script-requires c κs = search needs
+
+store-length-requires : tie.Need-store-length-requires
+store-length-requires c κs = search needs
+
+same-length : tie.Need-same-length
+same-length c = search needs
+
+returns : tie.Need-returns
+returns c = let h = same-answer _ (c .before .before .before .before .script .ensures .0 .0) (c .store-length .ensures) in ((h .0, h .1, c .before .before .before .before .script .ensures .0 .1), c .before .before .before .before .script .ensures .1)
+
+pub jiggerreef-script-spec : {M : Type 1} → statement M
+jiggerreef-script-spec =
+    tie.close (tie.spec script-requires store-length-requires same-length returns)

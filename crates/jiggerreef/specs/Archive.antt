@@ -1,0 +1,25 @@
+-- The answers of the calls as the archive gives them: a number, and the values where the number is 0.
+use Prim.Native.Nat.{ℕ}
+use mathlib.Core.Path.{_≡_}
+use mathlib.Core.List.{List}
+use Rattle.horn_text.specs.Answers.{Answer, values, refused, surveyAnswer, partAnswer, scriptAnswer}
+
+-- 0 for a success, else the number of the refusal
+abbrev pub number : Answer → ℕ
+number (values ns) = 0
+number (refused n) = n
+
+-- what the caller's place for the values holds then: the values of a success; at a refusal what it held before
+abbrev pub stored : Answer → List ℕ → List ℕ
+stored (values ns) before = ns
+stored (refused n) before = before
+
+-- an answer can be told from its number and what was stored: 0 is no refusal's number
+abbrev pub Told : Answer → Type 0
+Told a = (before : List ℕ) → number a ≡ 0 → a ≡ values (stored a before)
+
+-- so it is for every file, index and buffer
+pub record AllTold : Type 0 where
+  pub survey : (file : List ℕ) → Told (surveyAnswer file)
+  pub part : (file : List ℕ) (i room : ℕ) → Told (partAnswer file i room)
+  pub script : (file : List ℕ) (room : ℕ) → Told (scriptAnswer file room)

@@ -1,0 +1,357 @@
+// Replays recorded task files. Each argument is the name of one: NAME.task has its bytes, NAME.answer what the three calls have to answer
+// for it. Writes a line for each, `NAME: as recorded`, or `NAME: differs` and then what was answered.
+//
+// An answer is `refused N`, or survey's four numbers with two checksums: of the parts joined, and of the places where they end. It is only
+// given if `part` and `script` agree with it: the script is the parts joined, a buffer one byte short is refused with 9, part P with 8, bytes
+// behind a text and all bytes at a refusal are unchanged.
+use libc::STDOUT_FILENO;
+use output::Out;
+use smt_horn::Surveyed;
+use smt_horn::Written;
+ghost use Prim.Native.Nat.{_<_};
+ghost use Rattle.io.specs.Counts.{Counts};
+
+// What every byte of a buffer is before a call.
+const FILLED: u8 = 165;
+
+// Checksums are taken modulo this prime number.
+const MODULUS: u64 = 36028797018963913;
+
+// Of the parts so far: the checksums of their bytes and of their ends, their length, and whether every call answered as it has to.
+struct Joined {
+    bytes: u64,
+    ends: u64,
+    len: usize,
+    good: bool,
+}
+
+fn main() {
+    let mut buf = [FILLED; 1048576];
+    replay_all(&mut buf);
+}
+
+// Replays the file of each argument.
+fn replay_all(buf: &mut [u8]) {
+    let n = os::arg_count();
+    let mut i: usize = 1;
+    while i < n {
+        replay(i, buf);
+        i += 1;
+    }
+}
+
+// Replays the file that an argument names.
+fn replay(i: usize, buf: &mut [u8]) {
+    let mut name = io::buffer();
+    let n = os::arg(i, &mut name);
+    replay_named(&name[..n], buf);
+}
+
+fn replay_named(name: &[u8], buf: &mut [u8]) {
+    let mut file = io::large_buffer();
+    let n = read_file(name, b".task", &mut file);
+    let mut recorded = io::buffer();
+    let m = read_file(name, b".answer", &mut recorded);
+    io::write_all(STDOUT_FILENO, name);
+    print_outcome(&file[..n], &recorded[..m], buf);
+}
+
+// Reads the file of that name and ending as far as there is room.
+fn read_file(name: &[u8], ending: &[u8], buf: &mut [u8]) -> usize
+    ensures { λ r. ⌜ Counts r (now (buf .exit)) ⌝ }
+{
+    let mut path = io::buffer();
+    let named = Out::new().bytes(&mut path, name);
+    let ended = named.bytes(&mut path, ending);
+    let n = output::least(ended.len, 4096);
+    let fd = os::open_read(&path[..n]);
+    let got = io::read_full(fd, buf);
+    libc::close(fd);
+    got
+}
+
+// Compares what is answered with what was recorded.
+fn print_outcome(file: &[u8], recorded: &[u8], buf: &mut [u8]) {
+    let mut text = io::buffer();
+    let out = answer(file, buf, &mut text);
+    let n = output::least(out.len, 4096);
+    if same(&text[..n], recorded) {
+        io::write_all(STDOUT_FILENO, b": as recorded\n");
+        return;
+    }
+    io::write_all(STDOUT_FILENO, b": differs\n");
+    io::write_all(STDOUT_FILENO, &text[..n]);
+}
+
+fn same(a: &[u8], b: &[u8]) -> bool {
+    if a.len() != b.len() {
+        return false;
+    }
+    let n = a.len();
+    let mut i: usize = 0;
+    while i < n {
+        if a[i] != b[i] {
+            return false;
+        }
+        i += 1;
+    }
+    true
+}
+
+// Sends the answer for a file.
+fn answer(file: &[u8], buf: &mut [u8], text: &mut [u8]) -> Out {
+    let surveyed = smt_horn::survey(file);
+    match surveyed {
+        Surveyed::Sizes(parts, assertions, len, longest) => {
+            let joined = join_parts(file, parts, longest, buf);
+            let out = send_sizes(text, parts, assertions, len, longest);
+            send_joined(out, text, file, len, joined, buf)
+        }
+        Surveyed::Refused(n) => send_refused(text, file, n, buf),
+    }
+}
+
+// Sends what survey answers.
+fn send_sizes(text: &mut [u8], parts: usize, assertions: usize, len: usize, longest: usize) -> Out {
+    let out = counted(Out::new(), text, parts, b" parts, ");
+    let out1 = counted(out, text, assertions, b" assertions, ");
+    let out2 = counted(out1, text, len, b" bytes, longest ");
+    counted(out2, text, longest, b"\n")
+}
+
+fn counted(out: Out, text: &mut [u8], n: usize, what: &[u8]) -> Out {
+    let number = out.number(text, n as u64);
+    number.bytes(text, what)
+}
+
+// Sends the checksums if all calls agree.
+fn send_joined(
+    out: Out,
+    text: &mut [u8],
+    file: &[u8],
+    len: usize,
+    joined: Joined,
+    buf: &mut [u8],
+) -> Out {
+    if joined.len != len {
+        return out.bytes(text, b"the parts have another length\n");
+    }
+    if !joined.good {
+        return out.bytes(text, b"a part differs\n");
+    }
+    if !script_agrees(file, joined.len, joined.bytes, buf) {
+        return out.bytes(text, b"the script differs\n");
+    }
+    let named = out.bytes(text, b"script ");
+    let hashed = named.number(text, joined.bytes);
+    let parted = hashed.bytes(text, b"\nends ");
+    let ended = parted.number(text, joined.ends);
+    ended.byte(text, b'\n')
+}
+
+// Sends a refusal if all calls agree.
+fn send_refused(text: &mut [u8], file: &[u8], n: u8, buf: &mut [u8]) -> Out {
+    let out = Out::new();
+    if !all_refuse(file, n, buf) {
+        return out.bytes(text, b"the calls refuse differently\n");
+    }
+    let named = out.bytes(text, b"refused ");
+    let numbered = named.number(text, n as u64);
+    numbered.byte(text, b'\n')
+}
+
+// Whether `part` and `script` refuse a file with that number and leave the buffer as it was.
+fn all_refuse(file: &[u8], n: u8, buf: &mut [u8]) -> bool {
+    let first = is_refused(smt_horn::part(file, 0, buf), n);
+    let last = is_refused(smt_horn::part(file, 18446744073709551615, buf), n);
+    let whole = is_refused(smt_horn::script(file, buf), n);
+    first && last && whole && is_filled(buf, 0)
+}
+
+fn is_refused(w: Written, n: u8) -> bool {
+    match w {
+        Written::Length(_) => false,
+        Written::Refused(m) => m == n,
+    }
+}
+
+fn is_written(w: Written, n: usize) -> bool {
+    match w {
+        Written::Length(m) => m == n,
+        Written::Refused(_) => false,
+    }
+}
+
+// Whether all bytes from a place on are filled.
+fn is_filled(buf: &[u8], from: usize) -> bool {
+    let n = buf.len();
+    let mut i = from;
+    while i < n {
+        if buf[i] != FILLED {
+            return false;
+        }
+        i += 1;
+    }
+    true
+}
+
+// Fills the buffer.
+fn fill(buf: &mut [u8]) {
+    let n = buf.len();
+    let mut i: usize = 0;
+    while i < n {
+        buf[i] = FILLED;
+        i += 1;
+    }
+}
+
+// Fills the first n bytes of the buffer, or all if it has fewer.
+fn fill_within(n: usize, buf: &mut [u8]) {
+    let room = output::least(n, buf.len());
+    fill(&mut buf[..room]);
+}
+
+// All parts, one after another into the same buffer with 16 bytes behind the longest.
+fn join_parts(file: &[u8], parts: usize, longest: usize, buf: &mut [u8]) -> Joined {
+    let room = output::least(output::sum(longest, 16), buf.len());
+    let mut joined = Joined {
+        bytes: 1,
+        ends: 1,
+        len: 0,
+        good: is_refused(smt_horn::part(file, parts, buf), 8),
+    };
+    let mut i: usize = 0;
+    while i < parts {
+        joined = join_part(file, i, parts <= 300, &mut buf[..room], joined);
+        i += 1;
+    }
+    joined
+}
+
+// The next part; where `short` is said also with a buffer one byte short.
+fn join_part(file: &[u8], i: usize, short: bool, buf: &mut [u8], before: Joined) -> Joined
+    requires { ⌜ (before .bytes < 36028797018963913) × (before .ends < 36028797018963913) ⌝ }
+    ensures { λ r. ⌜ (r .bytes < 36028797018963913) × (r .ends < 36028797018963913) ⌝ }
+{
+    let bytes = before.bytes;
+    let ends = before.ends;
+    let written = smt_horn::part(file, i, buf);
+    let Written::Length(n) = written else {
+        return Joined {
+            bytes,
+            ends,
+            len: before.len,
+            good: false,
+        };
+    };
+    let end = output::sum(before.len, n);
+    let hashed = checksum_within(bytes, n, buf);
+    let unchanged = is_filled(buf, n);
+    fill_within(n, buf);
+    let refused = refuses_short(file, i, short, n, buf);
+    Joined {
+        bytes: hashed,
+        ends: checksum_of_number(ends, end as u64),
+        len: end,
+        good: before.good && unchanged && refused,
+    }
+}
+
+// A part of n bytes in a buffer with room for one byte less.
+fn refuses_short(file: &[u8], i: usize, short: bool, n: usize, buf: &mut [u8]) -> bool {
+    if !short {
+        return true;
+    }
+    if n == 0 {
+        return false;
+    }
+    let refused = is_refused(part_within(file, i, n - 1, buf), 9);
+    refused && is_filled(buf, 0)
+}
+
+// `part` into the first n bytes of a buffer, or all if it has fewer.
+fn part_within(file: &[u8], i: usize, n: usize, buf: &mut [u8]) -> Written {
+    let room = output::least(n, buf.len());
+    smt_horn::part(file, i, &mut buf[..room])
+}
+
+// `script` into the first n bytes of a buffer, or all if it has fewer.
+fn script_within(file: &[u8], n: usize, buf: &mut [u8]) -> Written {
+    let room = output::least(n, buf.len());
+    smt_horn::script(file, &mut buf[..room])
+}
+
+// Whether `script` writes a text of that length and checksum, if the buffer has room for it, and refuses with 9 otherwise.
+fn script_agrees(file: &[u8], len: usize, bytes: u64, buf: &mut [u8]) -> bool {
+    if len == 0 {
+        return false;
+    }
+    let refused = is_refused(script_within(file, len - 1, buf), 9);
+    if !is_filled(buf, 0) {
+        return false;
+    }
+    if buf.len() < len {
+        return refused;
+    }
+    let exact = is_written(script_within(file, len, buf), len)
+        && checksum_within(1, len, buf) == bytes;
+    let fits = is_written(smt_horn::script(file, buf), len)
+        && checksum_within(1, len, buf) == bytes;
+    let unchanged = is_filled(buf, len);
+    fill_within(len, buf);
+    refused && exact && fits && unchanged
+}
+
+// The next checksum behind a byte.
+fn next(h: u64, b: u8) -> u64
+    requires { ⌜ h < 36028797018963913 ⌝ }
+    ensures { λ r. ⌜ r < 36028797018963913 ⌝ }
+{
+    (h * 257 + wide(b)) % MODULUS
+}
+
+fn wide(x: u8) -> u64
+    ensures { λ r. ⌜ r < 256 ⌝ }
+{
+    x as u64
+}
+
+// The checksum of bytes behind one of the bytes before them.
+fn checksum(before: u64, bytes: &[u8]) -> u64
+    requires { ⌜ before < 36028797018963913 ⌝ }
+    ensures { λ r. ⌜ r < 36028797018963913 ⌝ }
+{
+    let n = bytes.len();
+    let mut h = before;
+    let mut i: usize = 0;
+    while i < n {
+        h = next(h, bytes[i]);
+        i += 1;
+    }
+    h
+}
+
+// The checksum of the first n bytes of a buffer, or of all if it has fewer, likewise.
+fn checksum_within(before: u64, n: usize, buf: &[u8]) -> u64
+    requires { ⌜ before < 36028797018963913 ⌝ }
+    ensures { λ r. ⌜ r < 36028797018963913 ⌝ }
+{
+    let room = output::least(n, buf.len());
+    checksum(before, &buf[..room])
+}
+
+// The checksum of a number's 8 bytes, the lowest first, behind one of the bytes before them.
+fn checksum_of_number(before: u64, n: u64) -> u64
+    requires { ⌜ before < 36028797018963913 ⌝ }
+    ensures { λ r. ⌜ r < 36028797018963913 ⌝ }
+{
+    let mut h = before;
+    let mut left = n;
+    let mut i: usize = 0;
+    while i < 8 {
+        h = next(h, (left % 256) as u8);
+        left = left / 256;
+        i += 1;
+    }
+    h
+}

@@ -1,0 +1,175 @@
+//! Compares the archive with the rendering of this package, call by call, on files at every limit and on files by chance.
+//!
+//!     oracle/run [FILES [SEED]]
+//!
+//! For each file: survey's answer; every part in a buffer of its length, in one a byte shorter, in none and in a longer one; two parts that
+//! there are not; and the script in the same four buffers. For a refused file every call gives the refusal. No byte may change but those of
+//! a text that was asked for and has room. It prints a table of the files, and ends with exit status 1 at the first difference, with the
+//! smallest file that it finds for it.
+use jiggerreef::{part, script, survey, Refusal, Sizes};
+use oracle::chance::{Chance, SEED};
+use oracle::check::checked;
+use oracle::faults::{any_kind, Case, KINDS};
+use oracle::limits::limits;
+use oracle::shrink::smallest;
+use oracle::task::Answer;
+use oracle::text::Rendering;
+use std::{env, process::ExitCode};
+
+const FILES: usize = 200_000;
+
+/// A byte that no script has.
+const FILL: u8 = 0xa5;
+
+/// What a long buffer has behind the text, and a buffer for a call that is refused.
+const ROOM: usize = 40;
+
+/// Of a script with more parts every part is tried if it takes less than so many bytes of file and script in all, else about SAMPLED parts.
+const MANY_PARTS: usize = 400;
+const FEW_BYTES: usize = 40_000_000;
+const SAMPLED: usize = 12;
+
+enum Call { Part(usize), Script }
+
+impl Call {
+    fn answer(&self, file: &[u8], buf: &mut [u8]) -> Result<usize, Refusal> {
+        match self {
+            Call::Part(i) => part(file, *i, buf),
+            Call::Script => script(file, buf),
+        }
+    }
+}
+
+/// What was compared: parts, calls, and the files of which some parts only.
+#[derive(Default)]
+struct Compared { parts: usize, calls: usize, sampled: usize }
+
+/// Nothing, or what differs.
+type Same = Result<(), String>;
+
+fn same<T: PartialEq + std::fmt::Debug>(what: &str, rendering: T, archive: T) -> Same {
+    if rendering == archive { Ok(()) } else { Err(format!("{what}: {rendering:?} by the rendering, {archive:?} by the archive")) }
+}
+
+impl Compared {
+    /// One call with a buffer of this length: its answer and every byte of the buffer.
+    fn call(&mut self, file: &[u8], call: &Call, length: usize, expected: Answer<&str>) -> Same {
+        self.calls += 1;
+        let mut buf = vec![FILL; length];
+        let answer = call.answer(file, &mut buf).map_err(Refusal::number);
+        let text = expected.unwrap_or("").as_bytes();
+        if answer == expected.map(str::len) && buf.starts_with(text) && buf[text.len()..].iter().all(|byte| *byte == FILL) {
+            return Ok(());
+        }
+        let name = match call { Call::Part(i) => format!("part {i}"), Call::Script => "script".to_string() };
+        same(&format!("{name} with {length} bytes"), expected.map(str::len), answer)?;
+        Err(format!("{name} with {length} bytes: another text, or a byte changed that is none of it"))
+    }
+
+    /// A text that is to be written: with room for it, with room and more, and with too little.
+    fn text(&mut self, file: &[u8], call: Call, text: &str) -> Same {
+        self.call(file, &call, text.len(), Ok(text))?;
+        self.call(file, &call, text.len() + ROOM, Ok(text))?;
+        self.call(file, &call, text.len() - 1, Err(9))?;
+        self.call(file, &call, 0, Err(9))
+    }
+
+    fn accepted(&mut self, file: &[u8], rendering: &Rendering) -> Same {
+        let (parts, bytes) = (rendering.ends.len(), rendering.script.len());
+        let sizes = Sizes { parts, assertions: rendering.assertions, bytes, longest: rendering.longest() };
+        same("survey", Ok(sizes), survey(file).map_err(Refusal::number))?;
+        let all = parts <= MANY_PARTS || parts * (file.len() + bytes) < FEW_BYTES;
+        let step = if all { 1 } else { parts / SAMPLED };
+        for i in (0..parts).filter(|i| i % step == 0 || i + 1 == parts) {
+            self.text(file, Call::Part(i), rendering.part(i))?;
+            self.parts += 1;
+        }
+        self.sampled += !all as usize;
+        self.all_refused(file, &[Call::Part(parts), Call::Part(usize::MAX)], 8)?;
+        self.text(file, Call::Script, &rendering.script)
+    }
+
+    fn all_refused(&mut self, file: &[u8], calls: &[Call], refusal: u8) -> Same {
+        calls.iter().try_for_each(|call| [0, ROOM].iter().try_for_each(|length| self.call(file, call, *length, Err(refusal))))
+    }
+
+    fn file(&mut self, file: &[u8], answer: &Answer<Rendering>) -> Same {
+        self.calls += 1;
+        match answer {
+            Ok(rendering) => self.accepted(file, rendering),
+            Err(refusal) => {
+                same("survey", Err(*refusal), survey(file).map_err(Refusal::number))?;
+                self.all_refused(file, &[Call::Part(0), Call::Part(usize::MAX), Call::Script], *refusal)
+            }
+        }
+    }
+}
+
+/// The files by kind and by answer: accepted at 0, and refused with 1 to 7.
+#[derive(Default)]
+struct Table { rows: Vec<(String, [usize; 8])>, compared: Compared }
+
+impl Table {
+    fn add(&mut self, kind: &str, case: &Case) -> Same {
+        let answer = checked(&case.file);
+        let number = answer.as_ref().err().copied().unwrap_or(0);
+        if let Some(due) = case.due.filter(|due| *due != number) {
+            return Err(format!("made for {due}, the rendering answers {number} (0: accepted)"));
+        }
+        let at = self.rows.iter().position(|row| row.0 == kind).unwrap_or_else(|| {
+            self.rows.push((kind.to_string(), [0; 8]));
+            self.rows.len() - 1
+        });
+        self.rows[at].1[number as usize] += 1;
+        self.compared.file(&case.file, &answer)
+    }
+
+    fn print(&self) {
+        let print = |kind: &str, counts: &[usize; 8]| {
+            let numbers: String = counts.iter().map(|count| format!("{count:>9}")).collect();
+            println!("{kind:<14}{:>9}{numbers}", counts.iter().sum::<usize>());
+        };
+        let titles: String = (1..8).map(|refusal| format!("{refusal:>9}")).collect();
+        println!("{:<14}{:>9}{:>9}{titles}", "kind", "files", "accepted");
+        self.rows.iter().for_each(|(kind, counts)| print(kind, counts));
+        print("total", &std::array::from_fn(|number| self.rows.iter().map(|(_, counts)| counts[number]).sum()));
+        let Compared { parts, calls, sampled } = self.compared;
+        println!("{parts} parts in {calls} calls");
+        println!("of {sampled} files with more than {MANY_PARTS} parts: the first part, the last and every n-th, about {SAMPLED} in all");
+    }
+}
+
+/// Says what differs, and the smallest file found for it.
+fn report(kind: &str, case: &Case, difference: &str) -> ExitCode {
+    let differs = |file: &[u8]| Compared::default().file(file, &checked(file)).err();
+    let small = smallest(&case.file, |file| differs(file).is_some());
+    let hex: String = small.iter().map(|byte| format!("{byte:02x}")).collect();
+    println!("{kind}: {difference}");
+    println!("smallest file, {} bytes: {hex}", small.len());
+    differs(&small).iter().for_each(|difference| println!("there, {difference}"));
+    ExitCode::FAILURE
+}
+
+fn main() -> ExitCode {
+    let mut args = env::args().skip(1).map(|arg| arg.parse::<u64>().expect("a number"));
+    let (files, seed) = (args.next().map_or(FILES, |files| files as usize), args.next().unwrap_or(SEED));
+    let (mut chance, mut table) = (Chance::new(seed), Table::default());
+    KINDS.iter().for_each(|kind| table.rows.push((kind.0.to_string(), [0; 8])));
+    let limits = limits();
+    let by_chance = files.saturating_sub(limits.len());
+    for (name, case) in &limits {
+        if let Err(difference) = table.add("limit", case) {
+            return report(name, case, &difference);
+        }
+    }
+    for _ in 0..by_chance {
+        let (kind, _, make) = any_kind(&mut chance);
+        let case = make.case(&mut chance);
+        if let Err(difference) = table.add(kind, &case) {
+            return report(kind, &case, &difference);
+        }
+    }
+    table.print();
+    println!("{} files, 0 differences", limits.len() + by_chance);
+    ExitCode::SUCCESS
+}

@@ -1,0 +1,360 @@
+//! Kinds of task files by chance: valid ones, ones with one fault or two, and damaged ones.
+use crate::chance::Chance;
+use crate::draft::{named, symbol, text, Draft, Place, Plan, Spot};
+use crate::task::{
+    CONSTRAINT_CODES, DEEPEST, EXPR_CODES, LONGEST_FILE, MAP_DEFAULT, PRED_CODES, RESERVED, SET_EMPTY, SORT_CODES, TRAILER,
+};
+use crate::words::{joined, offsets, sealed};
+use std::ops::Range;
+use Make::{By, With};
+
+/// A file and the answer it was made for, if there is one: 0 for an accepted file, else the refusal.
+pub struct Case { pub file: Vec<u8>, pub due: Option<u8> }
+
+/// A way to make a file: by itself, or a valid one with one fault that gets this refusal.
+pub enum Make { By(fn(&mut Chance) -> Case), With(u8, Fault) }
+
+/// What is put in place of the bytes of a span to make a draft faulty; nothing if the draft has no place for the fault.
+type Fault = fn(&Draft, &mut Chance) -> Option<Splice>;
+pub struct Splice { section: usize, span: Range<usize>, bytes: Vec<u8> }
+
+/// A kind of files: its name, its share among all, and how one is made.
+pub type Kind = (&'static str, usize, Make);
+
+pub const KINDS: [Kind; 39] = [
+    ("tree", 200, By(|chance| valid(chance, SMALL))),
+    ("middle", 40, By(|chance| valid(chance, Plan { pieces: 300, items: 5, ..SMALL }))),
+    ("large", 2, By(|chance| valid(chance, Plan { pieces: 1500, items: 20, ..SMALL }))),
+    ("wide", 1, By(|chance| valid(chance, Plan { items: 150, ..SMALL }))),
+    ("deep", 15, By(|chance| valid(chance, Plan { target: DEEPEST, ..SMALL }))),
+    ("chain", 15, By(|chance| valid(chance, Plan { target: DEEPEST, chain: true, ..SMALL }))),
+    ("size", 1, By(sized)),
+    ("1-length", 3, By(wrong_length)),
+    ("1-mark", 3, By(wrong_mark)),
+    ("1-offset", 12, By(wrong_offset)),
+    ("2-code", 20, With(2, wrong_code)),
+    ("2-choice", 20, With(2, wrong_choice)),
+    ("2-name", 10, With(2, empty_name)),
+    ("2-text", 10, With(2, endless_text)),
+    ("2-cut", 20, With(2, cut_item)),
+    ("2-left", 5, With(2, bytes_left)),
+    ("2-none", 2, With(2, no_constraint)),
+    ("3-deep", 10, By(too_deep)),
+    ("3-sort", 8, With(3, deep_sort)),
+    ("3-expr", 8, With(3, deep_expr)),
+    ("3-pred", 8, With(3, deep_pred)),
+    ("3-constraint", 8, With(3, deep_constraint)),
+    ("4-name", 40, With(4, wrong_name)),
+    ("4-comment", 10, With(4, wrong_comment)),
+    ("4-string", 10, With(4, wrong_string)),
+    ("5-datatype", 8, With(5, no_ctors)),
+    ("5-bitvec", 8, With(5, bitvec_of_sort)),
+    ("5-width", 12, With(5, width_elsewhere)),
+    ("5-wkvar", 12, With(5, weak_kvar)),
+    ("5-function", 12, With(5, bare_function)),
+    ("6-arguments", 20, With(6, wrong_arguments)),
+    ("7-binder", 20, With(7, repeated_binder)),
+    ("two-faults", 60, By(two_faults)),
+    ("border", 20, By(moved_border)),
+    ("changed", 160, By(|chance| damaged(chance, change))),
+    ("inserted", 60, By(|chance| damaged(chance, insert))),
+    ("removed", 60, By(|chance| damaged(chance, remove))),
+    ("swapped", 40, By(|chance| damaged(chance, swap))),
+    ("cut", 20, By(cut_off)),
+];
+
+impl Make {
+    pub fn case(&self, chance: &mut Chance) -> Case {
+        match self {
+            By(make) => make(chance),
+            With(refusal, fault) => {
+                let (mut draft, splice) = drafted(chance, fault);
+                splice.apply(&mut draft);
+                Case { file: draft.file(), due: Some(*refusal) }
+            }
+        }
+    }
+}
+
+/// A kind by chance, according to the shares.
+pub fn any_kind(chance: &mut Chance) -> &'static Kind {
+    let mut left = chance.below(KINDS.iter().map(|kind| kind.1).sum());
+    KINDS.iter().find(|kind| left.checked_sub(kind.1).map(|rest| left = rest).is_none()).expect("a share")
+}
+
+// ---- Valid files
+
+const SMALL: Plan = Plan { pieces: 60, items: 2, target: 0, chain: false };
+
+fn valid(chance: &mut Chance, plan: Plan) -> Case { Case { file: Draft::new(chance, plan).file(), due: Some(0) } }
+
+/// As long as can be, or a byte longer: the rest is a comment.
+fn sized(chance: &mut Chance) -> Case {
+    let (mut draft, over) = (Draft::new(chance, SMALL), chance.below(2));
+    let rest = LONGEST_FILE + over - draft.file().len() - 2;
+    draft.sections[0].extend((rest as u16).to_le_bytes().into_iter().chain(vec![b'-'; rest]));
+    Case { file: draft.file(), due: Some(over as u8) }
+}
+
+// ---- One fault
+
+impl Splice {
+    fn at(place: &Place, bytes: Vec<u8>) -> Self { Splice { section: place.section, span: place.span.clone(), bytes } }
+    fn apply(self, draft: &mut Draft) { drop(draft.sections[self.section].splice(self.span, self.bytes)) }
+    fn start(&self) -> (usize, usize) { (self.section, self.span.start) }
+}
+
+/// A valid draft and what `fault` finds in it.
+fn drafted<T>(chance: &mut Chance, fault: impl Fn(&Draft, &mut Chance) -> Option<T>) -> (Draft, T) {
+    loop {
+        let draft = Draft::new(chance, SMALL);
+        if let Some(found) = fault(&draft, chance) {
+            return (draft, found);
+        }
+    }
+}
+
+fn place<'d>(draft: &'d Draft, chance: &mut Chance, fits: impl Fn(&Spot) -> bool) -> Option<&'d Place> {
+    let places: Vec<&Place> = draft.places.iter().filter(|place| fits(&place.spot)).collect();
+    if places.is_empty() { None } else { Some(places[chance.below(places.len())]) }
+}
+
+fn wrong_length(chance: &mut Chance) -> Case {
+    let file = Draft::new(chance, SMALL).file();
+    let few = chance.below(TRAILER);
+    Case { file: if chance.below(2) == 0 { file[..few].to_vec() } else { file[file.len() - few..].to_vec() }, due: Some(1) }
+}
+
+fn wrong_mark(chance: &mut Chance) -> Case {
+    let mut file = Draft::new(chance, SMALL).file();
+    let at = file.len() - 1 - chance.below(4);
+    file[at] ^= 1 << chance.below(8);
+    Case { file, due: Some(1) }
+}
+
+/// The first offset not 0, one below the one before or above the one behind, the last above the trailer's place.
+fn wrong_offset(chance: &mut Chance) -> Case {
+    let draft = Draft::new(chance, SMALL);
+    let (body, mut offsets, i) = (draft.sections.concat(), offsets(&draft.sections), chance.below(6));
+    let before = if i == 0 { 0 } else { offsets[i - 1] };
+    let most = if i == 5 { body.len() } else { offsets[i + 1] };
+    offsets[i] = match chance.below(3) {
+        0 if before > 0 => before - 1,
+        1 if i == 0 => 1,
+        1 => offsets[i] + (1 << (16 + chance.below(16))),
+        _ => most + 1,
+    };
+    Case { file: sealed(&body, offsets), due: Some(1) }
+}
+
+/// A byte that is no code below `bound`.
+fn beyond(chance: &mut Chance, bound: usize) -> u8 { (bound + chance.below(2) * chance.below(256 - bound)) as u8 }
+
+fn wrong_code(draft: &Draft, chance: &mut Chance) -> Option<Splice> {
+    let place = place(draft, chance, |spot| matches!(spot, Spot::Piece(_)))?;
+    let codes = match place.spot {
+        Spot::Piece('S') => SORT_CODES,
+        Spot::Piece('E') => EXPR_CODES,
+        Spot::Piece('P') => PRED_CODES,
+        _ => CONSTRAINT_CODES,
+    };
+    Some(Splice { section: place.section, span: place.span.start..place.span.start + 1, bytes: vec![beyond(chance, codes)] })
+}
+
+/// A flag, an operation, a relation, a quantifier or a theory function.
+fn wrong_choice(draft: &Draft, chance: &mut Chance) -> Option<Splice> {
+    let place = place(draft, chance, |spot| matches!(spot, Spot::Choice(_)))?;
+    let Spot::Choice(bound) = place.spot else { return None };
+    Some(Splice::at(place, vec![beyond(chance, bound as usize)]))
+}
+
+fn is_name(spot: &Spot) -> bool { matches!(spot, Spot::Name | Spot::Binder(_)) }
+
+fn empty_name(draft: &Draft, chance: &mut Chance) -> Option<Splice> { Some(Splice::at(place(draft, chance, is_name)?, vec![0])) }
+
+/// A text with a length above that of any section.
+fn endless_text(draft: &Draft, chance: &mut Chance) -> Option<Splice> {
+    let place = place(draft, chance, |spot| matches!(spot, Spot::String | Spot::Comment))?;
+    Some(Splice { section: place.section, span: place.span.start..place.span.start + 2, bytes: vec![255, 255] })
+}
+
+/// The section ends inside an item.
+fn cut_item(draft: &Draft, chance: &mut Chance) -> Option<Splice> {
+    let place = place(draft, chance, |spot| *spot == Spot::Item)?;
+    let cut = place.span.start + 1 + chance.below(place.span.len() - 1);
+    Some(Splice { section: place.section, span: cut..draft.sections[place.section].len(), bytes: Vec::new() })
+}
+
+fn bytes_left(draft: &Draft, chance: &mut Chance) -> Option<Splice> {
+    let (end, bytes) = (draft.sections[5].len(), (0..1 + chance.below(3)).map(|_| chance.below(4) as u8).collect());
+    Some(Splice { section: 5, span: end..end, bytes })
+}
+
+fn no_constraint(draft: &Draft, _: &mut Chance) -> Option<Splice> {
+    Some(Splice { section: 5, span: 0..draft.sections[5].len(), bytes: Vec::new() })
+}
+
+fn too_deep(chance: &mut Chance) -> Case {
+    let chain = chance.below(2) == 0;
+    Case { file: Draft::new(chance, Plan { target: DEEPEST + 1, chain, ..SMALL }).file(), due: Some(3) }
+}
+
+/// A form around itself from a place of this kind on, `last` behind it, and something or nothing due at level 257.
+fn nested(draft: &Draft, chance: &mut Chance, kind: char, form: &[u8], last: &[u8]) -> Option<Splice> {
+    let place = place(draft, chance, |spot| *spot == Spot::Piece(kind))?;
+    let due = [&[][..], &[0], &[255]][chance.below(3)];
+    Some(Splice::at(place, [&form.repeat(DEEPEST + 1 - place.level - last.len()), last, due].concat()))
+}
+
+fn deep_sort(draft: &Draft, chance: &mut Chance) -> Option<Splice> { nested(draft, chance, 'S', &[9, 1, 0], &[]) }
+fn deep_expr(draft: &Draft, chance: &mut Chance) -> Option<Splice> { nested(draft, chance, 'E', &[7], &[]) }
+fn deep_pred(draft: &Draft, chance: &mut Chance) -> Option<Splice> { nested(draft, chance, 'C', &[1, 1, 0], &[0]) }
+fn deep_constraint(draft: &Draft, chance: &mut Chance) -> Option<Splice> { nested(draft, chance, 'C', &[1, 1, 0], &[]) }
+
+/// Bytes that no symbol has.
+const NO_SYMBOL: &[u8] = b" \"#'(),:;\\`{|}[]\n\t\0\x7f\x80\xff";
+
+/// A reserved word, a digit in front, or a byte that no symbol has.
+fn wrong_name(draft: &Draft, chance: &mut Chance) -> Option<Splice> {
+    let (place, mut name) = (place(draft, chance, is_name)?, symbol(chance).into_bytes());
+    match chance.below(3) {
+        0 => name = RESERVED[chance.below(RESERVED.len())].into(),
+        1 => name[0] = b'0' + chance.below(10) as u8,
+        _ => {
+            let at = chance.below(name.len());
+            name[at] = NO_SYMBOL[chance.below(NO_SYMBOL.len())];
+        }
+    }
+    Some(Splice::at(place, named(&name)))
+}
+
+/// A text with one of the bytes that it may not have.
+fn wrong_text(draft: &Draft, chance: &mut Chance, spot: Spot, bytes: &[u8]) -> Option<Splice> {
+    let (place, mut text) = (place(draft, chance, |found| *found == spot)?, text(chance, 40, spot == Spot::String));
+    let (at, bytes) = (chance.below(text.len() - 1), [bytes, &[0, 9, 10, 13, 31, 127, 128, 255]].concat());
+    text.insert(2 + at, bytes[chance.below(bytes.len())]);
+    text[0] += 1;
+    Some(Splice::at(place, text))
+}
+
+fn wrong_comment(draft: &Draft, chance: &mut Chance) -> Option<Splice> { wrong_text(draft, chance, Spot::Comment, &[]) }
+fn wrong_string(draft: &Draft, chance: &mut Chance) -> Option<Splice> { wrong_text(draft, chance, Spot::String, b"\"\"\"") }
+
+/// `bytes` in place of some piece.
+fn instead(draft: &Draft, chance: &mut Chance, bytes: &[u8], fits: impl Fn(&Spot) -> bool) -> Option<Splice> {
+    Some(Splice::at(place(draft, chance, fits)?, bytes.to_vec()))
+}
+
+fn no_ctors(draft: &Draft, chance: &mut Chance) -> Option<Splice> { instead(draft, chance, &[0, 0], |spot| *spot == Spot::Ctors) }
+
+fn bitvec_of_sort(draft: &Draft, chance: &mut Chance) -> Option<Splice> {
+    let sort = [&[0][..], &[3], &[6, 1, 0], &[9, 0, 0], &[11, 1, b'D', 0, 0]][chance.below(5)];
+    instead(draft, chance, sort, |spot| *spot == Spot::Width)
+}
+
+fn width_elsewhere(draft: &Draft, chance: &mut Chance) -> Option<Splice> {
+    instead(draft, chance, &[5, 8, 0, 0, 0], |spot| *spot == Spot::Piece('S'))
+}
+
+fn weak_kvar(draft: &Draft, chance: &mut Chance) -> Option<Splice> {
+    instead(draft, chance, &[6], |spot| matches!(spot, Spot::Piece('E') | Spot::Head))
+}
+
+/// One of the two functions that need a sort, where there is none for them.
+fn bare_function(draft: &Draft, chance: &mut Chance) -> Option<Splice> {
+    let function = [SET_EMPTY, MAP_DEFAULT][chance.below(2)] as u8;
+    instead(draft, chance, &[18, function], |spot| *spot == Spot::Piece('E'))
+}
+
+/// More argument names or fewer.
+fn wrong_arguments(draft: &Draft, chance: &mut Chance) -> Option<Splice> {
+    let place = place(draft, chance, |spot| *spot == Spot::Args)?;
+    let many = draft.sections[place.section][place.span.start] as usize;
+    let other = (many + 1 + chance.below(many + 3)) % (many + 4);
+    let names = (0..other).flat_map(|_| named(symbol(chance).as_bytes()));
+    Some(Splice::at(place, [other as u8, 0].into_iter().chain(names.collect::<Vec<_>>()).collect()))
+}
+
+fn repeated_binder(draft: &Draft, chance: &mut Chance) -> Option<Splice> {
+    let place = place(draft, chance, |spot| matches!(spot, Spot::Binder(Some(_))))?;
+    let Spot::Binder(Some(outer)) = &place.spot else { return None };
+    Some(Splice::at(place, named(outer.as_bytes())))
+}
+
+/// Two faults that do not touch: the first of those with 2 or 3 is met, else the lower is answered.
+fn two_faults(chance: &mut Chance) -> Case {
+    let fault = |kind: &Kind| if let With(refusal, fault) = kind.2 { Some((refusal, fault)) } else { None };
+    let faults: Vec<(u8, Fault)> = KINDS.iter().filter_map(fault).collect();
+    let (mut draft, mut two) = drafted(chance, |draft, chance| {
+        let [(first, one), (second, other)] = [0, 1].map(|_| faults[chance.below(faults.len())]);
+        let [a, b] = [one(draft, chance)?, other(draft, chance)?];
+        let apart = a.section != b.section || a.span.end <= b.span.start || b.span.end <= a.span.start;
+        apart.then_some([(first, a), (second, b)])
+    });
+    two.sort_by_key(|(_, splice)| splice.start());
+    let numbers = two.each_ref().map(|(refusal, _)| *refusal);
+    two.into_iter().rev().for_each(|(_, splice)| splice.apply(&mut draft));
+    let met = numbers.iter().find(|refusal| **refusal <= 3);
+    Case { file: draft.file(), due: Some(*met.unwrap_or(numbers.iter().min().expect("two"))) }
+}
+
+// ---- Damage, which may get any answer
+
+/// The border between two sections moved a little.
+fn moved_border(chance: &mut Chance) -> Case {
+    let draft = Draft::new(chance, SMALL);
+    let (mut offsets, i) = (offsets(&draft.sections), 1 + chance.below(5));
+    offsets[i] = (offsets[i] + 3 + [1, 1, 2, 3][chance.below(4)]).saturating_sub([3, 4, 5, 6, 7, 7][chance.below(6)]);
+    Case { file: sealed(&draft.sections.concat(), offsets), due: None }
+}
+
+/// A valid file with one to three edits in its sections; the offsets mostly move along, and now and then a byte of the trailer is changed.
+fn damaged(chance: &mut Chance, edit: fn(&mut Chance, &mut Vec<u8>)) -> Case {
+    let mut sections = Draft::new(chance, SMALL).sections;
+    let before = offsets(&sections);
+    for _ in 0..1 + chance.below(3) {
+        let section = Some(chance.below(6)).filter(|section| !sections[*section].is_empty()).unwrap_or(5);
+        edit(chance, &mut sections[section]);
+    }
+    let mut file = if chance.below(6) == 0 { sealed(&sections.concat(), before) } else { joined(&sections) };
+    if chance.below(24) == 0 {
+        let at = file.len() - 1 - chance.below(TRAILER);
+        file[at] ^= 1 << chance.below(8);
+    }
+    Case { file, due: None }
+}
+
+/// A valid file cut off, with the trailer put behind the cut or not.
+fn cut_off(chance: &mut Chance) -> Case {
+    let mut file = Draft::new(chance, SMALL).file();
+    let cut = chance.below(file.len() - TRAILER);
+    if chance.below(2) == 0 { file.truncate(cut) } else { drop(file.drain(cut..file.len() - TRAILER)) }
+    Case { file, due: None }
+}
+
+fn likely(chance: &mut Chance, byte: u8) -> u8 {
+    [byte ^ 1, byte.wrapping_add(1), byte.wrapping_sub(1), chance.below(22) as u8, chance.below(256) as u8][chance.below(5)]
+}
+
+fn change(chance: &mut Chance, bytes: &mut Vec<u8>) {
+    let at = chance.below(bytes.len());
+    bytes[at] = likely(chance, bytes[at]);
+}
+
+fn insert(chance: &mut Chance, bytes: &mut Vec<u8>) {
+    let at = chance.below(bytes.len());
+    let byte = likely(chance, bytes[at]);
+    bytes.insert(at, byte);
+}
+
+fn remove(chance: &mut Chance, bytes: &mut Vec<u8>) {
+    let at = chance.below(bytes.len());
+    let many = [1, 1, 2, 3, 8, 20][chance.below(6)].min(bytes.len() - at);
+    // A section keeps a byte
+    bytes.drain(at..at + many.min(bytes.len() - 1));
+}
+
+fn swap(chance: &mut Chance, bytes: &mut Vec<u8>) {
+    let [a, b] = [0, 1].map(|_| chance.below(bytes.len()));
+    if chance.below(2) == 0 { bytes.swap(a, b) } else { bytes[a.min(b)..].rotate_left(a.max(b) - a.min(b)) }
+}

@@ -1,0 +1,50 @@
+//! A rendering of the task of Jiggerreef in Rust, from the same papers and with nothing of the crates in it: it reads a task file, refuses
+//! it or writes its script. Beside it stand makers of task files. The programs of this package compare the two and record answers.
+pub mod chance;
+pub mod check;
+pub mod draft;
+pub mod faults;
+pub mod limits;
+pub mod shrink;
+pub mod task;
+pub mod text;
+pub mod words;
+
+#[cfg(test)]
+mod tests {
+    use super::{chance::*, check::*, faults::*, limits::*, shrink::*, task::*, words::*};
+    use std::collections::HashSet;
+
+    const EACH: usize = 300;
+
+    fn check_answer(name: &str, case: &Case) {
+        let answer = checked(&case.file).err().unwrap_or(0);
+        assert!(case.due.is_none_or(|due| due == answer), "{name}: {answer}, bytes {:?}", case.file);
+    }
+
+    #[test]
+    fn files_get_the_answers_they_were_made_for() {
+        let mut chance = Chance::new(SEED);
+        for (name, _, make) in &KINDS {
+            (0..EACH).for_each(|_| check_answer(name, &make.case(&mut chance)));
+        }
+    }
+
+    #[test]
+    fn limits_get_the_answers_they_were_made_for() {
+        let limits = limits();
+        limits.iter().for_each(|(name, case)| check_answer(name, case));
+        assert_eq!(limits.iter().map(|(name, _)| name).collect::<HashSet<_>>().len(), limits.len());
+    }
+
+    #[test]
+    fn reserved_words_are_found() {
+        assert!(RESERVED.is_sorted() && RESERVED.iter().all(|word| !is_symbol(word.as_bytes())) && is_symbol(b"asserts"));
+    }
+
+    #[test]
+    fn a_file_shrinks_to_what_shows_its_fault() {
+        let file = packed("c: \"long k: 'a 0 'b 1 v: 'k #0 h: 1 #3 0 K 0 1 6 0 T");
+        assert_eq!(smallest(&file, |file| checked(file).is_err_and(|refusal| refusal == 5)), packed("h: 1 #3 0 K 0 1 6 0 T"));
+    }
+}

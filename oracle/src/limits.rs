@@ -1,0 +1,190 @@
+//! Fixed task files: the table of the papers, and what stands at a limit or a step beyond it.
+use crate::faults::Case;
+use crate::task::{DEEPEST, LONGEST_FILE, TRAILER};
+use crate::words::{joined, offsets, packed, sealed, sections, S, USUAL};
+
+/// The accepted lines of the papers' table beside S: a name, the declarations and assertions, a line for each, and the file in words.
+pub const TABLE: [(&str, &str, &str); 9] = [
+    ("empty-and", "(assert (=> (not true) false))", "h: 0 1 13 #0"),
+    ("empty-or", "(assert (=> (not false) false))", "h: 0 1 14 #0"),
+    ("unguarded", "(assert (=> (not e) false))", "h: 0 1 E"),
+    ("kvar-0-guards", "(assert (=> true k))", "h: 0 K"),
+    ("kvar-1-guard", "(assert (forall ((x Int)) (=> p k)))", "h: 2 'x S #1 P 0 K"),
+    ("kvar-2-guards", "(assert (forall ((x Int)) (=> (and p false) k)))", "h: 2 'x S #2 P F 0 K"),
+    ("par", "(declare-datatypes ((N 1)) ((par (T0) ((c (f T0))))))", "d: 'N #1 #1 'c #1 'f 6 #0"),
+    ("undeclared", "(declare-const c Int)", "k: 'c 11 'U #2 1 2"),
+    ("true-head", "", "h: 0 T"),
+];
+
+/// A comment with a line feed, and behind it what would be a command.
+pub const ACCIDENT: &str = "c: #12 10 40 99 104 101 99 107 45 115 97 116 41 h: 0 K";
+
+/// Forms around themselves: a name, how often so that the last piece is at level 256, what is before, the form's two sides and the middle.
+const NESTED: [(&str, usize, &str, &str, &str, &str); 24] = [
+    ("sort", 255, "k: 'c", "9 #1", "0", ""),
+    ("func-left", 255, "k: 'c", "7", "0", "1"),
+    ("func-right", 255, "v: 'k #1", "7 0", "0", ""),
+    ("abs", 255, "k: 'c", "8 #1", "2", ""),
+    ("map", 255, "d: 'D #0 #1 'c #1 'f", "10 #2 0", "0", ""),
+    ("data", 255, "d: 'D #1 #1 'c #0 k: 'c", "11 'D #1", "0", ""),
+    ("undeclared", 255, "k: 'c", "11 'U #1", "0", ""),
+    ("bitvec", 254, "k: 'c", "9 #1", "4 5 8 *3", ""),
+    ("expr", 255, "f: 'f #0 #0 0 1 #0", "7", "E", ""),
+    ("ne", 255, "f: 'f #0 #0 0 1 #0", "10 1 E", "E", ""),
+    ("and", 255, "f: 'f #0 #0 0 1 #0", "13 #1", "E", ""),
+    ("or", 255, "f: 'f #0 #0 0 1 #0", "14 #2 E", "E", ""),
+    ("ite", 255, "f: 'f #0 #0 0 1 #0", "15", "E", "E E"),
+    ("let", 255, "f: 'f #0 #0 0 1 #0", "16 'v", "E", "E"),
+    ("head", 255, "f: 'f #0 #0 0 1 #0", "17 0", "E", "#0"),
+    ("head-of-one", 255, "f: 'f #0 #0 0 1 #0", "17 1 0", "E", "#1 E"),
+    ("argument", 255, "f: 'f #0 #0 0 1 #0", "17 0 5 'f #1", "E", ""),
+    ("emptyset", 254, "f: 'f #0 #0 0 1 #0", "8", "17 1 0 18 38 #0", ""),
+    ("tester", 255, "f: 'f #0 #0 0 1 #0", "19 'c", "E", ""),
+    ("quantifier", 255, "f: 'f #0 #0 0 1 #0", "20 1 #1 'x 0", "E", ""),
+    ("pred", 254, "h:", "1 #1", "0 K", ""),
+    ("pred-expr", 253, "h:", "1 #1", "0 1 E", ""),
+    ("argument-of-pred", 253, "h: 0 0 'k #1", "12 E", "E", ""),
+    ("constraint", 255, "h:", "1 #1", "C", ""),
+];
+
+/// A file for each place of a name.
+const NAMED: [(&str, &str); 15] = [
+    ("datatype", "d: @ #0 #1 'c #0"), ("constructor", "d: 'D #0 #1 @ #0"), ("field", "d: 'D #0 #1 'c #1 @ 0"), ("constant", "k: @ 0"),
+    ("function", "f: @ #0 #0 0 0"), ("argument", "f: 'f #0 #1 0 0 1 #1 @ E"), ("kvar", "v: @ #0"), ("sort", "k: 'c 11 @ #0"),
+    ("var", "h: 0 1 5 @"), ("let", "h: 0 1 16 @ E E"), ("tester", "h: 0 1 19 @ E"), ("quantified", "h: 0 1 20 0 #1 @ 0 E"),
+    ("head", "h: 0 0 @ #0"), ("guard", "h: 2 'x 0 #1 0 @ #0 0 K"), ("binder", "h: 2 @ 0 #0 0 K"),
+];
+
+/// A file for each counted list, with a count that its section cannot hold.
+const COUNTED: [(&str, &str); 13] = [
+    ("constructors", "d: 'D #0 #65535 'c #0"), ("fields", "d: 'D #0 #1 'c #65535 'f 0"), ("inputs", "f: 'f #0 #65535 0 0 0"),
+    ("arguments", "f: 'f #0 #1 0 0 1 #65535 'x E"), ("sorts", "v: 'k #65535 0"), ("sort-arguments", "k: 'c 9 #65535 0"),
+    ("members", "h: 0 1 13 #65535 E"), ("app-arguments", "h: 0 1 17 0 E #65535 E"), ("quantified", "h: 0 1 20 0 #65535 'x 0 E"),
+    ("kvar-arguments", "h: 0 0 'k #65535 E"), ("constraints", "h: 1 #65535 0 K"), ("guards", "h: 2 'x 0 #65535 P 0 K"),
+    ("comment", "c: #65535 97"),
+];
+
+/// What the source cannot write, arguments other than inputs and repeated binders, in places that are written and in others; and one file
+/// that only looks so.
+const FAULTY: [(&str, u8, &str); 20] = [
+    ("no-constructors", 5, "d: 'D #0 #0"), ("bitvec-of-sort", 5, "k: 'c 4 0"), ("bitvec-of-bitvec", 5, "k: 'c 4 4 5 *4"),
+    ("width", 5, "k: 'c 5 8 *3"), ("width-of-undeclared", 5, "k: 'c 11 'U #1 5 *4"), ("weak-kvar", 5, "h: 0 1 6"),
+    ("weak-kvar-of-true-head", 5, "h: 2 'x 0 #1 1 6 0 T"), ("emptyset", 5, "h: 0 1 18 38"), ("const", 5, "h: 0 1 18 45"),
+    ("emptyset-without-sort", 5, "h: 0 1 17 0 18 38 #0"), ("const-as-argument", 5, "h: 0 1 17 1 0 18 45 #1 18 45"),
+    ("more-arguments", 6, "f: 'f #0 #1 0 0 1 #2 'x 'y E"), ("fewer-arguments", 6, "f: 'f #0 #1 0 0 1 #0 E"),
+    ("no-inputs", 6, "f: 'f #0 #0 0 1 #1 'x E"), ("256-inputs", 6, "f: 'f #0 #256 *256 0 1 #0 E"), ("repeated", 7, "h: X X 0 K"),
+    ("repeated-around-true", 7, "h: X Y X 0 T"), ("repeated-around-nothing", 7, "h: X 1 #2 0 K Y 1 #1 Y C"),
+    ("all", 4, "k: 'c 5 *4 f: 'f #0 #1 0 0 1 #0 E h: X X 0 0 'let #0"), ("repeated-beside", 0, "h: 1 #3 X 0 K X 0 K X Y 0 K"),
+];
+
+/// A file with something in every section.
+const FULL: &str = "c: \"ok d: 'D #1 #1 'c #1 'f 6 #0 k: 'c 11 'D #1 0 f: 'f #0 #1 0 1 1 #1 'x E v: 'k #1 0 h: 2 'x 0 #1 P 1 #2 0 K 0 1 E";
+
+/// Words for so many ForAlls with names of their own, a guard each, and the words of a constraint inside.
+pub fn nested(many: usize, inner: &str) -> String { (0..many).map(|i| format!("2 'x{i} 0 #1 1 5 'x{i} ")).collect::<String>() + inner }
+
+/// Words with a comment in front that makes the file so long.
+fn padded(length: usize, rest: &str) -> String {
+    let bytes = length - packed(rest).len() - 2;
+    format!("c: \"{} {rest}", "c".repeat(bytes))
+}
+
+struct Limits(Vec<(String, Case)>);
+
+impl Limits {
+    fn file(&mut self, name: &str, due: Option<u8>, file: Vec<u8>) { self.0.push((name.to_string(), Case { file, due })) }
+    fn words(&mut self, name: &str, due: u8, words: &str) { self.file(name, Some(due), packed(words)) }
+
+    fn table(&mut self) {
+        self.words("table-s", 0, S);
+        TABLE.iter().for_each(|(name, _, words)| self.words(&format!("table-{name}"), 0, words));
+        self.file("table-27-zeros", Some(1), vec![0; 27]);
+        self.file("table-24-zeros-mark", Some(2), [&[0; 24], &b"HORN"[..]].concat());
+        self.words("accident", 4, ACCIDENT);
+        FAULTY.iter().for_each(|(name, due, words)| self.words(&format!("faulty-{name}"), *due, words));
+    }
+
+    fn levels(&mut self) {
+        for (name, fits, before, left, middle, right) in NESTED {
+            for (over, due) in [(0, 0), (1, 3)] {
+                let [left, right] = [left, right].map(|side| format!("{side} ").repeat(fits + over));
+                self.words(&format!("levels-{}-{name}", DEEPEST + over), due, &format!("{before} {left} {middle} {right}"));
+            }
+        }
+        for (name, fits, inner) in [("conj", 254, "C"), ("kvar", 254, "0 K"), ("expr", 253, "0 1 E")] {
+            self.words(&format!("binders-{fits}-{name}"), 0, &format!("h: {}", nested(fits, inner)));
+            self.words(&format!("binders-{}-{name}", fits + 1), 3, &format!("h: {}", nested(fits + 1, inner)));
+        }
+        self.words("binders-254-repeated", 7, &format!("h: {}", nested(253, "2 'x0 0 #0 C")));
+        self.words("deep", 0, &format!("h: {}", nested(200, &format!("1 #10000 {}", "0 F ".repeat(10_000)))));
+        let sized = |due: &str| format!("k: 'c {}{due}", "9 #1 ".repeat(DEEPEST));
+        [("nothing", ""), ("wrong-code", "255"), ("width", "5 *4")].iter().for_each(|(name, due)| {
+            self.words(&format!("levels-257-{name}"), 3, &sized(due));
+        });
+    }
+
+    fn names(&mut self) {
+        for (place, words) in NAMED {
+            for (name, due, word) in [
+                ("name-0", 2, "0".to_string()), ("name-1", 0, "'~".to_string()), ("name-255", 0, format!("'{}", "a".repeat(255))),
+                ("name-reserved", 4, "'set-option".to_string()), ("name-digit", 4, "'0x".to_string()),
+            ] {
+                self.words(&format!("{name}-{place}"), due, &words.replace('@', &word));
+            }
+        }
+    }
+
+    fn numbers(&mut self) {
+        let numerals = [0, 9, 10, (1 << 64) - 1, 1 << 64, 10u128.pow(19) - 1, 10u128.pow(19), 10u128.pow(20), 10u128.pow(38), u128::MAX];
+        for (i, numeral) in numerals.iter().enumerate() {
+            let bytes: String = numeral.to_le_bytes().iter().map(|byte| format!("{byte} ")).collect();
+            let name = match i { 0 => "0".to_string(), 9 => "max".to_string(), _ => numeral.to_string() };
+            self.words(&format!("numeral-{name}"), 0, &format!("h: 1 #2 0 1 0 {bytes} 0 1 4 {bytes} #65535 #65535"));
+        }
+        for vars in [0, 1, 2, 3, 9999, 10_000, 65_534, 65_535] {
+            self.words(&format!("parameters-{vars}"), 0, &format!("d: 'N #{vars} #1 'c #1 'f 6 #0"));
+        }
+        COUNTED.iter().for_each(|(name, words)| self.words(&format!("count-65535-{name}"), 2, words));
+        self.words("count-59961-sorts", 0, &format!("v: 'k #59961 {}", "0 ".repeat(59_961)));
+        self.words("count-19989-constraints", 0, &format!("h: 1 #19989 {}", "C ".repeat(19_989)));
+        self.words("count-14000-true-heads", 0, &format!("h: 1 #14000 {}", "0 T ".repeat(14_000)));
+        self.words("count-3000-constants", 0, &format!("k: {}", "'c 0 ".repeat(3_000)));
+    }
+
+    fn sizes(&mut self) {
+        for (name, rest) in [("comment", "h: C"), ("s", S), ("full", FULL)] {
+            self.words(&format!("size-60000-{name}"), 0, &padded(LONGEST_FILE, rest));
+            self.words(&format!("size-60001-{name}"), 1, &padded(LONGEST_FILE + 1, rest));
+        }
+        for size in [0, 1, 4, TRAILER - 1] {
+            self.file(&format!("size-{size}"), Some(1), packed(S)[packed(S).len() - size..].to_vec());
+        }
+    }
+
+    fn offsets(&mut self) {
+        let sections = sections(FULL, USUAL).expect("words");
+        let (body, right) = (sections.concat(), offsets(&sections));
+        self.file("offsets", Some(0), joined(&sections));
+        let with = |i: usize, offset: usize| sealed(&body, std::array::from_fn(|j| if i == j { offset } else { right[j] }));
+        for i in 0..6 {
+            for (name, moved) in [("less", right[i].wrapping_sub(1)), ("more", right[i] + 1), ("far", right[i] + (1 << 24))] {
+                let due = if i == 0 || name == "far" { Some(1) } else { None };
+                self.file(&format!("offset-{i}-{name}"), due, with(i, moved));
+            }
+        }
+        self.file("offset-5-end", Some(2), with(5, body.len()));
+        self.file("offset-5-behind-end", Some(1), with(5, body.len() + 1));
+    }
+}
+
+/// The files, each with a name of its own.
+pub fn limits() -> Vec<(String, Case)> {
+    let mut limits = Limits(Vec::new());
+    limits.table();
+    limits.levels();
+    limits.names();
+    limits.numbers();
+    limits.sizes();
+    limits.offsets();
+    limits.0
+}
