@@ -4,8 +4,7 @@ use mathlib.Core.Bool.{Bool, true, false, cond}
 use mathlib.Core.List.{List, [], _∷_, _++_, append-nil, nil≢cons}
 use Prim.Native.Nat.{ℕ, _+_, _-_, _≤_, min}
 use native.Mathlib.Omega.{arith}
-use lib.ListN.{length, take, length-append}
-use lib.Seq.{length-take-le}
+use lib.ListN.{length, length-append}
 use Rattle.smtlib.specs.Lexicon.{bytes}
 use Rattle.smtlib.specs.Compose.{paren}
 use Rattle.task.specs.declared.PredNode.{PredNode}

@@ -6,22 +6,22 @@ use mathlib.Core.List.{List, [], _∷_, _++_, append-nil, append-assoc}
 use Prim.Native.Nat.{ℕ, _+_, _-_, _≤_, min}
 use native.Mathlib.Nat.{zero-add}
 use native.Mathlib.Omega.{arith}
-use lib.ListN.{length, take, drop, length-append, length-take, length-drop}
+use lib.ListN.{length, take, drop, length-append, length-drop}
 use lib.Seq.{sets, sets-eq, length-take-le, take-append-seam, take-append-le, take-append-add, take-take}
 use Rattle.smtlib.proofs.Bools.{clash}
 use Rattle.task.specs.Decode.{got, binder, deepest}
 use Rattle.task.proofs.Reading.{bind-got}
 use Rattle.smt_text.specs.Encoder.{Encoder}
 use Rattle.smt_text.specs.Text.{spaced, write-binder}
-use Rattle.horn_text.specs.Clauses.{ForAll, kept, bindersOf, guardsOf}
-use Rattle.horn_text.specs.Script.{join, write-preds}
+use Rattle.horn_text.specs.Clauses.{ForAll, kept, guardsOf}
+use Rattle.horn_text.specs.Script.{write-preds}
 use Rattle.smt_sort.specs.declared.Datatypes.{Datatypes}
 use Rattle.smt_sort.specs.Section.{encoderIn}
 use Rattle.output.specs.Emit.{Output, output, most, emits, Sends}
 use Rattle.output.proofs.Sent.{emits-sets}
 use Rattle.assertion.specs.declared.Kept as code
 use Rattle.assertion.specs.Under.{forAllAt, onPath, varsText, keptText, ownText, guardsText, countOwn, countAll, Counts}
-use Rattle.assertion.specs.Kept.{room, Fits, Holds, Keeps, Stays, Extends}
+use Rattle.assertion.specs.Kept.{room, Fits, Keeps, Stays, Extends}
 use Rattle.assertion.proofs.Guards.{spaced-append, preds-append, binder-runs}
 
 -- TEXTS IN A BUFFER

@@ -9,7 +9,7 @@ use task_check::Walked;
 ghost use mathlib.Core.Bool.{true, false};
 ghost use mathlib.Core.Path.{_≡_};
 ghost use mathlib.Core.List.{[], _∷_};
-ghost use Prim.Native.Nat.{_+_, _≤_, min};
+ghost use Prim.Native.Nat.{_+_, min};
 ghost use Rattle.task.specs.Decode.{many, decExpr, decPred, deepest};
 ghost use Rattle.output.specs.Emit.{output, Sends};
 ghost use Rattle.smt_sort.specs.Section.{encoderIn};
