@@ -250,7 +250,7 @@ fn put_assertions(file: &[u8], b: Bounds, range: Range, buf: &mut [u8], p: Progr
     let path = [0usize; 0];
     let mut vars = [0u8; 16384];
     let mut guards = [0u8; 16384];
-    let none = Kept::start();
+    let kept = Kept::start();
     let moved = flatten::flatten_constraint(
         &file[..end],
         at,
@@ -262,7 +262,7 @@ fn put_assertions(file: &[u8], b: Bounds, range: Range, buf: &mut [u8], p: Progr
         p,
         &mut vars,
         &mut guards,
-        none,
+        kept,
     );
     moved.progress
 }
