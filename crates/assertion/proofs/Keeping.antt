@@ -173,6 +173,10 @@ keeps-start s types vars guards k e h h' = record {
       rw (← z) (record { vars-are = rw (e .1); guards-are = rw (e .2); count-is = e .3 });
 }
 
+-- nothing moved
+pub stays-same : (k : code.Kept) (vars guards : List ℕ) → Stays k vars guards vars guards
+stays-same k vars guards = record { size-vars = refl; size-guards = refl; same-vars = refl; same-guards = refl }
+
 module _ (s : List ℕ) (types : Datatypes) (at : ℕ) (k : code.Kept) (vars guards : List ℕ) (h : Fits vars guards k) where
   -- nothing of a longer path
   pub extends-none : (k' : code.Kept) (vars' guards' : List ℕ) → (k' .has ≡ false) × (k' .vars ≡ k .vars) × (k' .guards ≡ k .guards)
@@ -198,7 +202,7 @@ module _ (s : List ℕ) (types : Datatypes) (at : ℕ) (k : code.Kept) (vars gua
 
   -- nothing was kept
   pub extends-not : not (k .has) ≡ true → Extends s types at k k vars guards vars guards
-  extends-not e = extends-none k vars guards (not-set (k .has) e, refl, refl) (record { size-vars = refl; size-guards = refl; same-vars = refl; same-guards = refl })
+  extends-not e = extends-none k vars guards (not-set (k .has) e, refl, refl) (stays-same k vars guards)
 
   module _ (ys zs : List ℕ) (ly : length ys ≡ length (take (length vars - k .vars) (drop (k .vars) vars))) (lz : length zs ≡ length (take (length guards - k .guards) (drop (k .guards) guards))) where
     -- both texts were lent
@@ -267,9 +271,6 @@ keeps-stays s types path vars guards vars' guards' k h st =
 pub keeps-pushed : (s : List ℕ) (types : Datatypes) (path path' vars guards : List ℕ) (k : code.Kept) → path' ≡ path → Keeps s types path vars guards k
     → Keeps s types path' vars guards k
 keeps-pushed s types path path' vars guards k e h = rw e h
-
-pub stays-same : (k : code.Kept) (vars guards : List ℕ) → Stays k vars guards vars guards
-stays-same k vars guards = record { size-vars = refl; size-guards = refl; same-vars = refl; same-guards = refl }
 
 pub stays-then : (k : code.Kept) (a b a' b' a'' b'' : List ℕ) → Stays k a b a' b' → Stays k a' b' a'' b'' → Stays k a b a'' b''
 stays-then k a b a' b' a'' b'' x y = record {

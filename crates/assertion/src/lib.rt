@@ -1,5 +1,5 @@
-// The writer of one assertion, `write_assert` of `smt_horn.rs`, from the offsets of the ForAlls around the head. The writers read any bytes:
-// what they send is told for a path whose offsets are those of ForAlls, and for a head that decodes.
+// The writer of one assertion, `write_assert` of `smt_horn.rs`, from the offsets of the ForAlls around the head, or from the text that is kept
+// of them. The writers read any bytes: what they send is told for a path whose offsets are those of ForAlls, and for a head that decodes.
 use output::Out;
 use smt_sort::Datatypes;
 use smt_word::Sent;

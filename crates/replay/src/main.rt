@@ -75,27 +75,12 @@ fn print_outcome(file: &[u8], recorded: &[u8], buf: &mut [u8]) {
     let mut text = io::buffer();
     let out = answer(file, buf, &mut text);
     let n = output::least(out.len, 4096);
-    if same(&text[..n], recorded) {
+    if smtlib::same_bytes(&text[..n], recorded) {
         io::write_all(STDOUT_FILENO, b": as recorded\n");
         return;
     }
     io::write_all(STDOUT_FILENO, b": differs\n");
     io::write_all(STDOUT_FILENO, &text[..n]);
-}
-
-fn same(a: &[u8], b: &[u8]) -> bool {
-    if a.len() != b.len() {
-        return false;
-    }
-    let n = a.len();
-    let mut i: usize = 0;
-    while i < n {
-        if a[i] != b[i] {
-            return false;
-        }
-        i += 1;
-    }
-    true
 }
 
 // Sends the answer for a file.

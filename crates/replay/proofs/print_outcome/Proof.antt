@@ -20,11 +20,11 @@ least-requires c κs = search needs
 array-share-prefix-text : tie.Need-array-share-prefix-text
 array-share-prefix-text c = search needs
 
-slice-aggregate-same : tie.Need-slice-aggregate-same
-slice-aggregate-same c = simp length-take (omega arith)
+slice-aggregate-same-bytes : tie.Need-slice-aggregate-same-bytes
+slice-aggregate-same-bytes c = simp length-take (omega arith)
 
-same-requires : tie.Need-same-requires
-same-requires c κs = search needs
+same-bytes-requires : tie.Need-same-bytes-requires
+same-bytes-requires c κs = search needs
 
 slice-aggregate-write-all : tie.Need-slice-aggregate-write-all
 slice-aggregate-write-all c = search needs
@@ -68,8 +68,8 @@ print-outcome-spec =
     answer-requires
     least-requires
     array-share-prefix-text
-    slice-aggregate-same
-    same-requires
+    slice-aggregate-same-bytes
+    same-bytes-requires
     slice-aggregate-write-all
     write-all-requires
     same-length
