@@ -7,9 +7,8 @@ use native.Mathlib.Numerals.{add-one}
 use native.Mathlib.Omega.{arith}
 use lib.ListN.{length, take, drop, getD, set, drop-of-length-le, length-append}
 use lib.Seq.{take-suc, take-suc-set, take-length, drop-cons}
-use Rattle.smtlib.specs.Lexicon.{same}
+use Rattle.smtlib.specs.Lexicon.{same, isOne}
 use Rattle.task.specs.Decode.{Res, got, refuse, name}
-use Rattle.task.specs.Fault.{isOne}
 use Rattle.task_check.specs.Walk.{named, namedAt}
 use Rattle.constraint_check.specs.Around.{namesOn}
 

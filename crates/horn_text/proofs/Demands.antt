@@ -1,16 +1,18 @@
 -- The customer's three demands: `demand1`, `demand2` and `demand3`.
 use Prim.Native.Nat.{ℕ, zero, suc, _+_, _≤_, _<_}
 use mathlib.Core.Path.{_≡_, refl, sym, ap, _∙_}
-use mathlib.Core.Bool.{Bool, true, false, cond}
+use mathlib.Core.Bool.{Bool, true, false, cond, not}
+use mathlib.Core.Logic.{_↔_, _⊎_, inl, inr, ⊎-elim}
 use mathlib.Core.List.{List, [], _++_}
 use native.Mathlib.Nat.{le-refl}
 use native.Mathlib.Omega.{arith}
-use lib.Dec.{T, leb, ltb, eqb, lit≤}
+use lib.Dec.{T, leb, ltb, eqb, ltb→lt, nltb→le, nleb→lt}
 use lib.ListN.{length, take, drop, getD, drop-of-length-le}
 use lib.Seq.{take-append-le, take-append-seam, drop-append-seam, drop-cons}
-use borrow.Author.Tests.{le-leb, lt-ltb}
+use borrow.Author.Tests.{le-leb, lt-leb, lt-ltb, le-ltb}
 use Rattle.smtlib.specs.Theorems.{ReadAtCuts}
 use Rattle.smtlib.proofs.Bools.{clash}
+use Rattle.smtlib.proofs.Cut.{unique}
 use Rattle.task.specs.declared.Fault.{Fault}
 use Rattle.task.specs.declared.Fault.the-variants.{Text, NoConstructors, BitVecWidth, Unqualified, WKVar, Arity, Shadowed, Sound}
 use Rattle.task.specs.Ast.{Task}
@@ -20,14 +22,38 @@ use Rattle.task.specs.Task.{framed, decoded, judged, taskOf}
 use Rattle.task.proofs.Reading.{bind-got, got-refuse}
 use Rattle.horn_text.specs.Script.{join, partsOf, scriptOf}
 use Rattle.horn_text.specs.Commands.{commandsOf}
-use Rattle.horn_text.specs.Answers.{Answer, refused, surveyOf, surveyAnswer, partOf, partAnswer, partLaid, partBuffer, scriptFitted, scriptAnswer, scriptLaid, scriptBuffer}
-use Rattle.horn_text.specs.Demand.{Demand1, nth, partsWritten, Demand2, Carries, Promised, Demand3}
-use Rattle.horn_text.proofs.Readings.{script-read, first-assertions}
+use Rattle.horn_text.specs.Answers.{Answer, refused, fitted, surveyOf, surveyAnswer, partOf, partAnswer, partLaid, partBuffer, scriptFitted, scriptAnswer, scriptLaid, scriptBuffer}
+use Rattle.horn_text.specs.Demand.{Accepted, Refused, Demand1, nth, partsWritten, Demand2, Carries, Promised, Demand3}
+use Rattle.horn_text.proofs.Readings.{script-reading, script-read, first-assertions, assertions-number}
 use Rattle.horn_text.proofs.Places.{clauses-placed, clauses-number, parts-number}
 use Rattle.horn_text.proofs.Lines.{parts-lined}
 use Rattle.horn_text.proofs.Opened.{cond-got}
 use Rattle.horn_text.proofs.Lengths.{script-short}
 use Rattle.horn_text.proofs.Refusals.{refusals}
+use Rattle.horn_text.proofs.Returned.{script-returns}
+
+-- ACCEPTED FILES
+
+-- only what is sound is not refused
+fault-sound : {A : Type 0} (f : Fault) (x : Res A) (a : A) (p : ℕ) → cond (eqb (refusalOf f) 0) x (refuse (refusalOf f)) ≡ got a p → f ≡ Sound
+fault-sound Text x a p e = got-refuse (sym e)
+fault-sound NoConstructors x a p e = got-refuse (sym e)
+fault-sound BitVecWidth x a p e = got-refuse (sym e)
+fault-sound Unqualified x a p e = got-refuse (sym e)
+fault-sound WKVar x a p e = got-refuse (sym e)
+fault-sound Arity x a p e = got-refuse (sym e)
+fault-sound Shadowed x a p e = got-refuse (sym e)
+fault-sound Sound x a p e = refl
+
+-- the task of a file is without fault
+task-sound : (file : List ℕ) (t : Task) (end : ℕ) → taskOf file ≡ got t end → taskFault t ≡ Sound
+unfolding taskOf judged
+task-sound file t end e =
+    let x = bind-got (decoded file) judged t end (cond-got (framed file) (bind (decoded file) judged) 1 e) in
+    let f = taskFault (x .value) in
+    let z = cond-got (eqb (refusalOf f) 0) (got (x .value) (x .next)) (refusalOf f) (x .then) in
+    let y : x .value ≡ t = cc in
+    ap taskFault (sym y) ∙ fault-sound f (got (x .value) (x .next)) t end (x .then)
 
 -- DEMAND 1
 
@@ -53,33 +79,45 @@ script-left : (x : Res Task) (n : ℕ) (buf : List ℕ) → scriptFitted x (leng
 script-left (got t end) n buf e = unchanged 9 (leb (length (scriptOf t)) (length buf)) (λ u. clash (cc)) e
 script-left (refuse m) n buf e = refl
 
--- a test that a number is answered behind
-cond-refused : (k : ℕ) (t : Bool) {a : Answer} {n : ℕ} → (a ≡ refused n → (1 ≤ n) × (n ≤ 9)) → T (leb 1 k) → T (leb k 9)
-    → cond t a (refused k) ≡ refused n → (1 ≤ n) × (n ≤ 9)
-cond-refused k true h u v e = h e
-cond-refused k false {n = n} h u v e = let z : k ≡ n = cc in rw (← z) (lit≤ u, lit≤ v)
+-- what is behind a test that was passed, or the number if it was not
+by-test : (k : ℕ) (t : Bool) {a : Answer} {n : ℕ} → cond t a (refused k) ≡ refused n → (T t × (a ≡ refused n)) ⊎ (T (not t) × (n ≡ k))
+by-test k true e = inl (tt, e)
+by-test k false e = inr (tt, cc)
 
--- the refusals of the task come first
-still : {n m : ℕ} → ((1 ≤ n) × (n ≤ 7)) → m ≡ n → (1 ≤ m) × (m ≤ 9)
-still g z = rw z (g .0, omega (arith, g .1))
+-- a text in a buffer is refused exactly if it is longer, and with 9
+fitted-refused : (text : List ℕ) (room n : ℕ) → (fitted text room ≡ refused n) ↔ ((n ≡ 9) × (room < length text))
+fitted-refused text room n = (
+  λ e. ⊎-elim (λ h. clash (let z = h .1 in cc)) (λ h. (h .1, nleb→lt (length text) room (h .0))) (by-test 9 (leb (length text) room) e),
+  λ h. rw (lt-leb _ _ (h .1), h .0),
+)
 
-part-refused : (x : Res Task) (i room n : ℕ) → ((m : ℕ) → x ≡ refuse m → (1 ≤ m) × (m ≤ 7)) → partOf x i room ≡ refused n → (1 ≤ n) × (n ≤ 9)
-part-refused (got t end) i room n h e =
-    cond-refused 8 (ltb i (length (partsOf t))) (cond-refused 9 (leb (length (nth t i)) room) (λ u. clash (cc)) tt tt) tt tt e
-part-refused (refuse m) i room n h e = let z : n ≡ m = cc in still (h m refl) z
+-- so is a part, and with 8 exactly if there is none
+part-refused : (t : Task) (end i room n : ℕ) → (partOf (got t end) i room ≡ refused n)
+    ↔ (((n ≡ 8) × (length (partsOf t) ≤ i)) ⊎ ((n ≡ 9) × (i < length (partsOf t)) × (room < length (nth t i))))
+part-refused t end i room n = (
+  λ e. ⊎-elim
+      (λ h. let w = fitted-refused (nth t i) room n .0 (h .1) in inr (w .0, ltb→lt i (length (partsOf t)) (h .0), w .1))
+      (λ h. inl (h .1, nltb→le i (length (partsOf t)) (h .0)))
+      (by-test 8 (ltb i (length (partsOf t))) e),
+  λ h. ⊎-elim (λ w. rw (le-ltb _ _ (w .1), w .0)) (λ w. rw (lt-ltb _ _ (w .1)) (fitted-refused (nth t i) room n .1 (w .0, w .2))) h,
+)
 
-script-refused : (x : Res Task) (room n : ℕ) → ((m : ℕ) → x ≡ refuse m → (1 ≤ m) × (m ≤ 7)) → scriptFitted x room ≡ refused n → (1 ≤ n) × (n ≤ 9)
-script-refused (got t end) room n h e = cond-refused 9 (leb (length (scriptOf t)) room) (λ u. clash (cc)) tt tt e
-script-refused (refuse m) room n h e = let z : n ≡ m = cc in still (h m refl) z
+-- a file by its task or its refusal
+settled : (file : List ℕ) (x : Res Task) → taskOf file ≡ x → Accepted file ⊎ Refused file
+unfolding surveyAnswer
+settled file (got t end) e = inl (record { task = t; end = end; holds = e })
+settled file (refuse n) e = inr (record { number = n; answers = rw e })
 
 pub demand1 : Demand1
 unfolding surveyAnswer partAnswer partBuffer scriptAnswer scriptBuffer
 demand1 = record {
+  any-bytes = λ file. settled file (taskOf file) refl;
   survey = λ file n e. refusals file n (survey-refused (taskOf file) n e);
+  returns = λ file t end e. script-returns t (task-sound file t end e);
   part = λ file n i room e. rw (survey-refused (taskOf file) n e);
   script = λ file n room e. rw (survey-refused (taskOf file) n e);
-  part-number = λ file i room n. part-refused (taskOf file) i room n (refusals file);
-  script-number = λ file room n. script-refused (taskOf file) room n (refusals file);
+  part-refuses = λ file t end e i room n. rw e (part-refused t end i room n);
+  script-refuses = λ file t end e room n. rw e (fitted-refused (scriptOf t) room n);
   part-unchanged = λ file i n buf e. part-left (taskOf file) i n buf e;
   script-unchanged = λ file n buf e. script-left (taskOf file) n buf e;
 }
@@ -122,6 +160,8 @@ demand2 file t end b e = record {
   reported = rw (e, clauses-number t);
   parts = parts-number t;
   short = script-short file t end b e;
+  assertions = assertions-number t;
+  assertions-read = λ cs r. rw (unique _ _ _ r (script-reading t (task-sound file t end e))) (assertions-number t);
   lined = parts-lined t;
   part-length = λ i room h g. rw (e, lt-ltb _ _ h, le-leb _ _ g);
   part-text = part-there file t end e;
@@ -135,27 +175,6 @@ demand2 file t end b e = record {
 }
 
 -- DEMAND 3
-
--- only what is sound is not refused
-fault-sound : {A : Type 0} (f : Fault) (x : Res A) (a : A) (p : ℕ) → cond (eqb (refusalOf f) 0) x (refuse (refusalOf f)) ≡ got a p → f ≡ Sound
-fault-sound Text x a p e = got-refuse (sym e)
-fault-sound NoConstructors x a p e = got-refuse (sym e)
-fault-sound BitVecWidth x a p e = got-refuse (sym e)
-fault-sound Unqualified x a p e = got-refuse (sym e)
-fault-sound WKVar x a p e = got-refuse (sym e)
-fault-sound Arity x a p e = got-refuse (sym e)
-fault-sound Shadowed x a p e = got-refuse (sym e)
-fault-sound Sound x a p e = refl
-
--- the task of a file is without fault
-task-sound : (file : List ℕ) (t : Task) (end : ℕ) → taskOf file ≡ got t end → taskFault t ≡ Sound
-unfolding taskOf judged
-task-sound file t end e =
-    let x = bind-got (decoded file) judged t end (cond-got (framed file) (bind (decoded file) judged) 1 e) in
-    let f = taskFault (x .value) in
-    let z = cond-got (eqb (refusalOf f) 0) (got (x .value) (x .next)) (refusalOf f) (x .then) in
-    let y : x .value ≡ t = cc in
-    ap taskFault (sym y) ∙ fault-sound f (got (x .value) (x .next)) t end (x .then)
 
 -- what is read of a text is read of it with bytes behind it
 carries : (t : Task) (rest : List ℕ) → ReadAtCuts (scriptOf t) (commandsOf t) → Carries t (scriptOf t ++ rest)

@@ -4,5 +4,6 @@ pub mod Lines
 pub mod Opened
 pub mod Lengths
 pub mod Refusals
+pub mod Returned
 pub mod Demands
 pub mod Rows

@@ -1,15 +1,17 @@
--- The script is read as the commands that the task calls for: `script-read`; and which assertions are among the first commands.
-use Prim.Native.Nat.{ℕ, zero, suc, _-_}
-use mathlib.Core.Path.{_≡_, refl, _∙_}
+-- The script is read as the commands that the task calls for: `script-read`; which assertions are among the first commands; and how many among
+-- all: `assertions-number`.
+use Prim.Native.Nat.{ℕ, zero, suc, _+_, _-_}
+use mathlib.Core.Path.{_≡_, refl, sym, ap, _∙_}
 use mathlib.Core.Bool.{Bool, true, false, cond}
 use mathlib.Core.List.{List, [], _∷_, _++_, map, append-assoc}
 use mathlib.Core.Option.{Option, none, some}
 use native.Mathlib.Nat.{add-assoc, zero-sub, sub-zero, suc-sub-suc}
+use native.Mathlib.Omega.{arith}
 use lib.Dec.{T}
-use lib.ListN.{length, take, length-append, length-map}
-use lib.Seq.{take-nil}
+use lib.ListN.{length, take, length-append, length-map, length-take}
+use lib.Seq.{take-nil, take-length}
 use Rattle.smtlib.specs.Lexicon.{bytes, all, visible, reservedWords}
-use Rattle.smtlib.specs.Read.{Sexps, Command}
+use Rattle.smtlib.specs.Read.{Sexps, Command, Reading}
 use Rattle.smtlib.specs.Compose.{Says, Follows, Writes}
 use Rattle.smtlib.specs.Theorems.{Composition}
 use Rattle.smtlib.proofs.Bools.{and-left, all-map}
@@ -28,9 +30,10 @@ use Rattle.smt_text.specs.Sexp.{row, reserved, symbol, binderSexp, bindersSexp,
 use Rattle.smt_text.proofs.Spelling.{Each, end, _∣_, in-row, form, command, word, kept, text-holds, binder-says, spelling}
 use Rattle.horn_text.specs.Clauses.{HornClause, flatten-constraint, flatten-constraints, clausesOf}
 use Rattle.horn_text.specs.Clauses as clauses
-use Rattle.horn_text.specs.Script.{join, write-preds, write-guard-conjunction, write-negation, write-implication, write-forall, write-assert, write-comment, write-comments, opening, closing, partsOf}
+use Rattle.horn_text.specs.Script.{join, write-preds, write-guard-conjunction, write-negation, write-implication, write-forall, write-assert, write-comment, write-comments, opening, closing, partsOf, scriptOf}
 use Rattle.horn_text.specs.Commands.{predsSexp, guardsSexp, negationSexp, implicationSexp, forallSexp, assertionCommand, assertionsOf, declarationCommands, commandsOf, isAssertion, assertionsAmong}
-use Rattle.horn_text.specs.Theorems.{ScriptRead, FirstAssertions}
+use Rattle.horn_text.specs.Theorems.{ScriptRead, FirstAssertions, AssertionsNumber}
+use Rattle.horn_text.proofs.Places.{clauses-number}
 open Composition composition using (says-list, says-row, follows-nothing, follows-list, writes-nothing, writes-more, writes-blank, writes-comment, written-read)
 open SoundParts sound-parts using (none-left, none-right, none-both)
 
@@ -89,7 +92,7 @@ module _ (enc : Encoder) where
       says-list (says-row (binder-says enc b (none-left _ _ h)) (binders-follow bs (none-right _ _ h))) ∣ s ∣ end)
 
 -- the fault of a clause
-clauseFault : HornClause → Fault
+unfoldable pub clauseFault : HornClause → Fault
 clauseFault c = lower (each binderFault (c .vars)) (lower (each predFault (c .guards)) (predFault (c .head)))
 
 -- the assertion of a clause without fault is its command
@@ -124,7 +127,7 @@ mutual
   unfolding flatten-constraint constraintFault clauseFault binderFault
 
   -- a constraint without fault, on a path without fault
-  clauses-sound : (around : List (List ℕ)) (c : Constraint) (vars : List Binder) (guards : List Pred) → each binderFault vars ≡ Sound
+  pub clauses-sound : (around : List (List ℕ)) (c : Constraint) (vars : List Binder) (guards : List Pred) → each binderFault vars ≡ Sound
       → each predFault guards ≡ Sound → constraintFault around c ≡ Sound → each clauseFault (flatten-constraint c vars guards) ≡ Sound
   clauses-sound around (Constraint.pred p) vars guards v g h =
       each-cond clauseFault (literallyTrue p) _ _ refl (none-both _ _ (none-both _ _ v (none-both _ _ g h)) refl)
@@ -216,8 +219,11 @@ script-parts t h =
     section (assertion-writes enc) (clausesOf t) (clauses-sound [] (t .constraint) [] [] refl refl (none-right _ _ h4)) then
     one-part closing-writes
 
+pub script-reading : (t : Task) → taskFault t ≡ Sound → Reading (scriptOf t) (commandsOf t)
+script-reading t h = written-read (script-parts t h .written)
+
 pub script-read : ScriptRead
-script-read t h = cuts _ _ (written-read (script-parts t h .written))
+script-read t h = cuts _ _ (script-reading t h)
 
 -- THE FIRST COMMANDS
 
@@ -271,3 +277,13 @@ first-assertions t n =
     let enc = encoder (t .datatypes) in
     let e : length (declarationCommands enc t) ≡ declarations t = simp (length-append, length-map, add-assoc) in
     passed (other refl (declarations-other enc t)) _ n ∙ rw e (asserted enc (clausesOf t) (n - suc (declarations t)))
+
+pub assertions-number : AssertionsNumber
+assertions-number t =
+    let enc = encoder (t .datatypes) in
+    let n = length (commandsOf t) in
+    let m = n - suc (declarations t) in
+    let e : n ≡ suc (declarations t + (length (clausesOf t) + 1)) = simp (length-append, length-map) (omega arith) in
+    let g : length (take m (clausesOf t)) ≡ length (clausesOf t) = simp length-take (omega arith) in
+    ap (λ (cs : List Command). length (assertionsAmong cs)) (sym (take-length (commandsOf t)))
+    ∙ ap length (first-assertions t n) ∙ length-map (take m (clausesOf t)) (assertionCommand enc) ∙ g ∙ clauses-number t

@@ -1,10 +1,11 @@
--- The number of every refusal of a file is from 1 to 7: `refusals`.
-use Prim.Native.Nat.{ℕ, zero, suc, _+_, _≤_}
+-- The number of every refusal of a file is on the list: `refusals`.
+use Prim.Native.Nat.{ℕ, zero, suc, _+_}
 use mathlib.Core.Path.{_≡_, ap}
 use mathlib.Core.Bool.{Bool, true, false, cond}
 use mathlib.Core.List.{List, [], _∷_}
-use lib.Dec.{T, leb, eqb, lit≤}
+use lib.Dec.{T, leb, eqb}
 use lib.ListN.{length, take, getD}
+use Rattle.smtlib.specs.Lexicon.{any}
 use Rattle.task.specs.declared.Fault.{Fault}
 use Rattle.task.specs.declared.Fault.the-variants.{Text, NoConstructors, BitVecWidth, Unqualified, WKVar, Arity, Shadowed, Sound}
 use Rattle.task.specs.Ast.{Sorts, Exprs, Constraints}
@@ -12,12 +13,13 @@ use Rattle.task.specs.Decode.{Res, got, refuse, bind, Decoder, give, refusal, _
 use Rattle.task.specs.Fault.{refusalOf, taskFault}
 use Rattle.task.specs.Task.{bound, framed, within, decoded, judged, taskOf}
 use Rattle.task.proofs.Reading.{got-refuse}
+use Rattle.horn_text.specs.Answers.{surveyNumbers}
 
 -- ANSWERS
 
--- an answer, if it is a refusal, has a number from 1 to 7
+-- an answer, if it is a refusal, has a number of the list
 record Numbered {A : Type 0} (x : Res A) : Type 0 where
-  numbered : (n : ℕ) → x ≡ refuse n → (1 ≤ n) × (n ≤ 7)
+  numbered : (n : ℕ) → x ≡ refuse n → T (any (eqb n) surveyNumbers)
 
 module _ {A : Type 0} where
   -- no refusal
@@ -25,8 +27,8 @@ module _ {A : Type 0} where
   fine = record { numbered = λ n e. got-refuse e }
 
   -- a refusal with a known number
-  refused : {k : ℕ} → T (leb 1 k) → T (leb k 7) → Numbered {A = A} (refuse k)
-  refused {k} h g = record { numbered = λ n e. let z : k ≡ n = cc in rw (← z) (lit≤ h, lit≤ g) }
+  refused : {k : ℕ} → T (any (eqb k) surveyNumbers) → Numbered {A = A} (refuse k)
+  refused {k} h = record { numbered = λ n e. let z : k ≡ n = cc in rw (← z) h }
 
   -- one of two answers
   either : (t : Bool) {x y : Res A} → Numbered x → Numbered y → Numbered (cond t x y)
@@ -51,11 +53,11 @@ module _ {A : Type 0} where
 
   -- too few bytes or a wrong one
   malformed : Refuses {A = A} (refusal 2)
-  malformed = record { answers = λ s at. refused tt tt }
+  malformed = record { answers = λ s at. refused tt }
 
   -- too many levels
   too-deep : Refuses {A = A} (refusal 3)
-  too-deep = record { answers = λ s at. refused tt tt }
+  too-deep = record { answers = λ s at. refused tt }
 
 infixr 2 _⟫_
 -- one piece, then what follows it
@@ -70,7 +72,7 @@ one-of false f g = g
 -- bytes
 raws : (n : ℕ) → Refuses (raw n)
 unfolding raw
-raws n = record { answers = λ s at. either (leb (at + n) (length s)) fine (refused tt tt) }
+raws n = record { answers = λ s at. either (leb (at + n) (length s)) fine (refused tt) }
 
 -- a number
 numbers : (n : ℕ) → Refuses (number n)
@@ -239,20 +241,20 @@ decoded-numbered file =
     follows (between (sections functions) file 3) (λ fs _.
     follows (between (sections kvars) file 4) (λ ks _.
     follows (between (constraints deepest) file 5) (λ c end.
-    either (eqb end (bound file 6)) fine (refused tt tt)))))))
+    either (eqb end (bound file 6)) fine (refused tt)))))))
 
--- a fault has a number from 4 to 7, and what is sound is not refused
+-- a fault has a number of the list, and what is sound is not refused
 fault-numbered : {A : Type 0} (a : A) (p : ℕ) (f : Fault) → Numbered (cond (eqb (refusalOf f) 0) (got a p) (refuse (refusalOf f)))
-fault-numbered a p Text = refused tt tt
-fault-numbered a p NoConstructors = refused tt tt
-fault-numbered a p BitVecWidth = refused tt tt
-fault-numbered a p Unqualified = refused tt tt
-fault-numbered a p WKVar = refused tt tt
-fault-numbered a p Arity = refused tt tt
-fault-numbered a p Shadowed = refused tt tt
+fault-numbered a p Text = refused tt
+fault-numbered a p NoConstructors = refused tt
+fault-numbered a p BitVecWidth = refused tt
+fault-numbered a p Unqualified = refused tt
+fault-numbered a p WKVar = refused tt
+fault-numbered a p Arity = refused tt
+fault-numbered a p Shadowed = refused tt
 fault-numbered a p Sound = fine
 
-pub refusals : (file : List ℕ) (n : ℕ) → taskOf file ≡ refuse n → (1 ≤ n) × (n ≤ 7)
+pub refusals : (file : List ℕ) (n : ℕ) → taskOf file ≡ refuse n → T (any (eqb n) surveyNumbers)
 unfolding taskOf judged
 refusals file n e =
-    either (framed file) (follows (decoded-numbered file) (λ t p. fault-numbered t p (taskFault t))) (refused tt tt) .numbered n e
+    either (framed file) (follows (decoded-numbered file) (λ t p. fault-numbered t p (taskFault t))) (refused tt) .numbered n e

@@ -8,7 +8,7 @@ use Rattle.task.specs.Ast.{Task}
 use Rattle.task.specs.Decode.{Res, got, refuse}
 use Rattle.task.specs.Task.{taskOf}
 use Rattle.horn_text.specs.Clauses.{clausesOf}
-use Rattle.horn_text.specs.Script.{partsOf, scriptOf, longest}
+use Rattle.horn_text.specs.Script.{join, partsOf, scriptOf, longest}
 
 -- the values of a success, or the number of a refusal alone
 pub data Answer : Type 0 where
@@ -17,11 +17,19 @@ pub data Answer : Type 0 where
 
 -- SURVEY
 
+-- the numbers that survey can answer, in the order of judging; of those that share a place the first met counts
+abbrev pub surveyPlaces : List (List ℕ)
+surveyPlaces = (1 ∷ []) ∷ (2 ∷ 3 ∷ []) ∷ (4 ∷ []) ∷ (5 ∷ []) ∷ (6 ∷ []) ∷ (7 ∷ []) ∷ []
+
+-- the same as one list
+abbrev pub surveyNumbers : List ℕ
+surveyNumbers = join surveyPlaces
+
 abbrev pub surveyOf : Res Task → Answer
 surveyOf (got t end) = values (length (partsOf t) ∷ length (clausesOf t) ∷ length (scriptOf t) ∷ longest (partsOf t) ∷ [])
 surveyOf (refuse n) = refused n
 
--- the numbers of parts and of assertions, the length of the script and that of its longest part; or 1 to 7
+-- the numbers of parts and of assertions, the length of the script and that of its longest part; or a number of the list
 unfoldable pub surveyAnswer : List ℕ → Answer
 surveyAnswer file = surveyOf (taskOf file)
 
@@ -41,7 +49,7 @@ abbrev pub partOf : Res Task → ℕ → ℕ → Answer
 partOf (got t end) i room = cond (ltb i (length (partsOf t))) (fitted (getD (partsOf t) i []) room) (refused 8)
 partOf (refuse n) i room = refused n
 
--- the length of part i; or 1 to 7, then 8 if there is no such part, then 9
+-- the length of part i; or survey's refusal, then 8 if there is no such part, then 9
 unfoldable pub partAnswer : List ℕ → ℕ → ℕ → Answer
 partAnswer file i room = partOf (taskOf file) i room
 
@@ -59,7 +67,7 @@ abbrev pub scriptFitted : Res Task → ℕ → Answer
 scriptFitted (got t end) room = fitted (scriptOf t) room
 scriptFitted (refuse n) room = refused n
 
--- the length of the script; or 1 to 7, then 9
+-- the length of the script; or survey's refusal, then 9
 unfoldable pub scriptAnswer : List ℕ → ℕ → Answer
 scriptAnswer file room = scriptFitted (taskOf file) room
 

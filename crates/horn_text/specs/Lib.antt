@@ -3,5 +3,7 @@ pub mod Answers
 pub mod Clauses
 pub mod Script
 pub mod Commands
+pub mod Returns
 pub mod Theorems
 pub mod Table
+pub mod Numbers

@@ -34,12 +34,21 @@ lines (s ∷ ss) = line (bytes s) ++ lines ss
 abbrev pub offset : ℕ → List ℕ
 offset n = n ∷ 0 ∷ 0 ∷ 0 ∷ []
 
--- A file with datatypes, constants and a constraint, and without comments, functions and KVars. The offsets are below 256.
+-- A file with these comments, datatypes, constants, functions, KVars and constraint. The offsets are below 256.
+abbrev pub fileWith : List ℕ → List ℕ → List ℕ → List ℕ → List ℕ → List ℕ → List ℕ
+fileWith comments datatypes constants functions kvars constraint =
+    comments ++ datatypes ++ constants ++ functions ++ kvars ++ constraint
+    ++ offset 0
+    ++ offset (length comments)
+    ++ offset (length comments + length datatypes)
+    ++ offset (length comments + length datatypes + length constants)
+    ++ offset (length comments + length datatypes + length constants + length functions)
+    ++ offset (length comments + length datatypes + length constants + length functions + length kvars)
+    ++ bytes "HORN"
+
+-- a file with datatypes, constants and a constraint
 abbrev pub fileOf : List ℕ → List ℕ → List ℕ → List ℕ
-fileOf datatypes constants constraint =
-    datatypes ++ constants ++ constraint ++ offset 0 ++ offset 0 ++ offset (length datatypes)
-    ++ offset (length datatypes + length constants) ++ offset (length datatypes + length constants)
-    ++ offset (length datatypes + length constants) ++ bytes "HORN"
+fileOf datatypes constants constraint = fileWith [] datatypes constants [] [] constraint
 
 -- A file that declares nothing. Its parts are 0 the opening, 1 the blank line, the assertions from 2 on, and the closing.
 abbrev pub constraintOnly : List ℕ → List ℕ

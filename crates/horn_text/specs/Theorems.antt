@@ -2,6 +2,7 @@
 use Prim.Native.Nat.{ℕ, suc, _+_, _-_, _^_, _≤_, _<_}
 use mathlib.Core.Path.{_≡_}
 use mathlib.Core.List.{List, []}
+use lib.Dec.{T}
 use lib.ListN.{length, take, getD}
 use Rattle.smtlib.specs.Compose.{line}
 use Rattle.smtlib.specs.Theorems.{ReadAtCuts}
@@ -14,10 +15,15 @@ use Rattle.smt_text.specs.Encoder.{encoder}
 use Rattle.horn_text.specs.Clauses.{clausesOf, placesOf, clausesAt}
 use Rattle.horn_text.specs.Script.{partsOf, scriptOf}
 use Rattle.horn_text.specs.Commands.{assertionsOf, commandsOf, assertionsAmong}
+use Rattle.horn_text.specs.Returns.{write-smt-horn-returns}
 
 -- The script of a task without fault is read, at every cut, as the commands that the task calls for. (proofs/Readings.antt: script-read)
 abbrev pub ScriptRead : Type 0
 ScriptRead = (t : Task) → taskFault t ≡ Sound → ReadAtCuts (scriptOf t) (commandsOf t)
+
+-- For a task without fault the source's writer returns. (proofs/Returned.antt: script-returns)
+abbrev pub ScriptReturns : Type 0
+ScriptReturns = (t : Task) → taskFault t ≡ Sound → T (write-smt-horn-returns t)
 
 -- The assertions among the first n commands are those of the first clauses. Before them stand `(set-logic HORN)` and the declarations.
 -- (proofs/Readings.antt: first-assertions)
@@ -34,6 +40,10 @@ ClausesPlaced = (t : Task) → clausesOf t ≡ clausesAt (placesOf (t .constrain
 -- There are as many clauses as heads that are not literally true. (proofs/Places.antt: clauses-number)
 abbrev pub ClausesNumber : Type 0
 ClausesNumber = (t : Task) → length (clausesOf t) ≡ headsOf (t .constraint)
+
+-- As many assertions are called for. (proofs/Readings.antt: assertions-number)
+abbrev pub AssertionsNumber : Type 0
+AssertionsNumber = (t : Task) → length (assertionsAmong (commandsOf t)) ≡ headsOf (t .constraint)
 
 -- D declarations and A assertions make D + A + 3 parts. (proofs/Places.antt: parts-number)
 abbrev pub PartsNumber : Type 0

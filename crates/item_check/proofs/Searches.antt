@@ -8,7 +8,7 @@ use native.Mathlib.Omega.{arith}
 use lib.Dec.{leb}
 use lib.ListN.{length}
 use borrow.Author.Tests.{le-leb, lt-leb}
-use Rattle.smtlib.specs.Lexicon.{same}
+use Rattle.smtlib.specs.Lexicon.{same, isOne}
 use Rattle.task.specs.declared.Fault.{Fault}
 use Rattle.task.specs.declared.Number.{Number}
 use Rattle.task.specs.declared.Number.the-variants as number-is
@@ -17,7 +17,7 @@ use Rattle.task.specs.declared.SpanRead.{SpanRead}
 use Rattle.task.specs.declared.SpanRead.the-variants as span-is
 use Rattle.task.specs.Ast.{DataCtor, DataDecl}
 use Rattle.task.specs.Decode.{Res, got, refuse, bind, Decoder, number, many, counted, name, binder, deepest, dataCtor, datatype, items}
-use Rattle.task.specs.Fault.{isOne, dataCtorFault, datatypeFault}
+use Rattle.task.specs.Fault.{dataCtorFault, datatypeFault}
 use Rattle.task.specs.Task.{ctorNames, declared, declaredBy}
 use Rattle.task.specs.Node.{numberOf, bytesOf, spanOf}
 use Rattle.task.proofs.Reading.{bind-got, got-refuse}

@@ -5,9 +5,9 @@ use mathlib.Core.List.{List, [], _∷_}
 use mathlib.Core.Path.{_≡_}
 use lib.Dec.{leb}
 use lib.ListN.{length}
+use Rattle.smtlib.specs.Lexicon.{isOne}
 use Rattle.task.specs.Ast.{DataCtor, DataDecl}
 use Rattle.task.specs.Decode.{Res, got, refuse, Decoder, many, name, dataCtor, datatype, section}
-use Rattle.task.specs.Fault.{isOne}
 use Rattle.task.specs.Task.{ctorNames, declared}
 
 -- an item, if it was decoded, before those behind it

@@ -1,9 +1,15 @@
 -- What the calls store, and that an answer can be told from it.
-use Prim.Native.Nat.{ℕ, _≤_}
-use mathlib.Core.Path.{_≡_, refl}
+use Prim.Native.Nat.{ℕ, zero, suc, _<_}
+use mathlib.Core.Path.{_≡_, refl, ap, _∙_}
+use mathlib.Core.Logic.{⊎-elim}
 use mathlib.Core.List.{List, [], _∷_}
 use native.Mathlib.Omega.{arith}
-use Rattle.horn_text.specs.Answers.{Answer, values, refused}
+use lib.Dec.{T, eqb}
+use Rattle.smtlib.specs.Lexicon.{any}
+use Rattle.task.specs.Ast.{Task}
+use Rattle.task.specs.Decode.{got}
+use Rattle.task.specs.Task.{taskOf}
+use Rattle.horn_text.specs.Answers.{Answer, values, refused, surveyNumbers, surveyAnswer}
 use Rattle.horn_text.proofs.Demands.{demand1}
 use Rattle.smt_horn.specs.declared.Surveyed.{Surveyed}
 use Rattle.smt_horn.specs.declared.Surveyed.the-variants as survey-is
@@ -31,14 +37,35 @@ pub same-answer : {a b : Answer} {n : ℕ} {now : List ℕ} (before : List ℕ)
     → a ≡ b → (n ≡ number a) × (now ≡ stored a before) → (n ≡ number b) × (now ≡ stored b before)
 same-answer before e h = rw (← e) h
 
--- a number that is none of a refusal
-no-refusal : (a : Answer) → ((n : ℕ) → a ≡ refused n → 1 ≤ n) → Told a
-no-refusal (values ns) h before e = refl
-no-refusal (refused n) h before e = let l = h n refl in absurd (omega arith)
+-- an answer whose refusals have other numbers than 0
+told : (a : Answer) → ((n : ℕ) → a ≡ refused n → 0 < n) → Told a
+told (values ns) h = record { success = λ before e. refl; refusal = λ n l e. absurd (omega arith) }
+told (refused m) h = record {
+  success = λ before e. let l = h m refl in absurd (omega arith);
+  refusal = λ n l e. ap refused e;
+}
+
+-- no number of the list is 0
+listed-above : (n : ℕ) → T (any (eqb n) surveyNumbers) → 0 < n
+listed-above zero h = absurd h
+listed-above (suc n) h = omega arith
+
+-- what survey refuses a call refuses alike, and what a call refuses by itself has another number than 0
+above : (file : List ℕ) (a : Answer) → ((m : ℕ) → surveyAnswer file ≡ refused m → a ≡ refused m)
+    → ((t : Task) (end : ℕ) → taskOf file ≡ got t end → (n : ℕ) → a ≡ refused n → 0 < n) → (n : ℕ) → a ≡ refused n → 0 < n
+above file a f g n e =
+    ⊎-elim
+    (λ h. g (h .task) (h .end) (h .holds) n e)
+    (λ h. let z = f (h .number) (h .answers) in
+    let w : h .number ≡ n = cc in
+    listed-above n (demand1 .survey file n (h .answers ∙ ap refused w)))
+    (demand1 .any-bytes file)
 
 pub all-told : AllTold
 all-told = record {
-  survey = λ file. no-refusal _ (λ n e. demand1 .survey file n e .0);
-  part = λ file i room. no-refusal _ (λ n e. demand1 .part-number file i room n e .0);
-  script = λ file room. no-refusal _ (λ n e. demand1 .script-number file room n e .0);
+  survey = λ file. told _ (λ n e. listed-above n (demand1 .survey file n e));
+  part = λ file i room. told _ (above file _ (λ m. demand1 .part file m i room)
+      (λ t end h n e. ⊎-elim (λ w. omega (arith, w .0)) (λ w. omega (arith, w .0)) (demand1 .part-refuses file t end h i room n .0 e)));
+  script = λ file room. told _ (above file _ (λ m. demand1 .script file m room)
+      (λ t end h n e. omega (arith, demand1 .script-refuses file t end h room n .0 e .0)));
 }

@@ -1,5 +1,5 @@
 -- The answers of the calls as the archive gives them: a number, and the values where the number is 0.
-use Prim.Native.Nat.{ℕ}
+use Prim.Native.Nat.{ℕ, _<_}
 use mathlib.Core.Path.{_≡_}
 use mathlib.Core.List.{List}
 use Rattle.horn_text.specs.Answers.{Answer, values, refused, surveyAnswer, partAnswer, scriptAnswer}
@@ -14,9 +14,12 @@ abbrev pub stored : Answer → List ℕ → List ℕ
 stored (values ns) before = ns
 stored (refused n) before = before
 
--- an answer can be told from its number and what was stored: 0 is no refusal's number
-abbrev pub Told : Answer → Type 0
-Told a = (before : List ℕ) → number a ≡ 0 → a ≡ values (stored a before)
+-- an answer can be told from its number and what was stored
+pub record Told (a : Answer) : Type 0 where
+  -- 0 is a success, with the values stored: it is no refusal's number
+  pub success : (before : List ℕ) → number a ≡ 0 → a ≡ values (stored a before)
+  -- a number above 0 is that refusal
+  pub refusal : (n : ℕ) → 0 < n → number a ≡ n → a ≡ refused n
 
 -- so it is for every file, index and buffer
 pub record AllTold : Type 0 where

@@ -5,13 +5,14 @@ use mathlib.Core.List.{List, [], _∷_}
 use Prim.Native.Nat.{ℕ, zero, suc}
 use types.Run.{OneOf, miss}
 use denote.Enum.Declared.{tagOf}
+use Rattle.smtlib.specs.Lexicon.{isOne}
 use Rattle.task.specs.declared.Span.{Span}
 use Rattle.task.specs.declared.ThyFunc.{ThyFunc}
 use Rattle.task.specs.declared.ExprNode.{ExprNode}
 use Rattle.task.specs.declared.ExprNode.the-variants as expr-node
 use Rattle.task.specs.Ast.{Expr, Exprs}
 use Rattle.task.specs.Decode.{Res, got, refuse, bind, Decoder, many, counted, binder, given, decExpr}
-use Rattle.task.specs.Fault.{isOne, needsSort}
+use Rattle.task.specs.Fault.{needsSort}
 use Rattle.task.specs.Node.{bytesOf, exprOf, ExprAt}
 use Rattle.task.proofs.ExprNode.{the-type}
 use Rattle.task.proofs.Reading.{got-refuse}

@@ -5,7 +5,7 @@ use mathlib.Core.List.{List, [], _∷_}
 use Prim.Native.Nat.{ℕ, zero, suc, _-_}
 use native.Mathlib.Numerals.{sub-one}
 use lib.ListN.{take}
-use Rattle.smtlib.specs.Lexicon.{bytes}
+use Rattle.smtlib.specs.Lexicon.{bytes, isOne}
 use Rattle.task.specs.declared.Fault.{Fault}
 use Rattle.task.specs.declared.Span.{Span}
 use Rattle.task.specs.declared.SpanRead.{SpanRead}
@@ -14,7 +14,7 @@ use Rattle.task.specs.declared.SortNode.{SortNode}
 use Rattle.task.specs.declared.SortNode.the-variants as sort-node
 use Rattle.task.specs.Ast.{SortCtor, Sort, Sorts}
 use Rattle.task.specs.Decode.{got, bind, many, name, binder, datatype, decSort}
-use Rattle.task.specs.Fault.{isOne, sortsFault}
+use Rattle.task.specs.Fault.{sortsFault}
 use Rattle.task.specs.Node.{bytesOf, spanOf, sortOf, SortAt}
 use Rattle.task_check.specs.declared.Walked.{Walked}
 use Rattle.task_check.specs.declared.Walked.the-variants as walked-is

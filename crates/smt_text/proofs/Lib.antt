@@ -1,3 +1,4 @@
 pub mod Spelling
 pub mod Bounds
 pub mod Examples
+pub mod Texts

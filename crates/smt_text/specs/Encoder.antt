@@ -2,8 +2,9 @@
 use Prim.Native.Nat.{ℕ}
 use mathlib.Core.Bool.{Bool, true, false, not}
 use mathlib.Core.List.{List, [], _∷_}
+use Rattle.smtlib.specs.Lexicon.{isOne}
 use Rattle.task.specs.Ast.{SortCtor, Sorts, Binder, Expr, DataDecl}
-use Rattle.task.specs.Fault.{isOne, needsSort}
+use Rattle.task.specs.Fault.{needsSort}
 use Rattle.task.specs.Task.{declaredBy}
 
 -- `SmtEncoder`: the names of the declared constructors and datatypes

@@ -4,3 +4,4 @@ pub mod Theory
 pub mod Text
 pub mod Sexp
 pub mod Theorems
+pub mod Table

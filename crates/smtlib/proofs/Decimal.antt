@@ -1,15 +1,16 @@
--- The decimal of a number is a numeral, `decimal-spells`, and as many digits as the number has are enough for it, `decimal-digits`.
+-- The decimal of a number is a numeral, `decimal-spells`, and means that number, `decimal-means`; as many digits as the number has are enough
+-- for it, `decimal-digits`.
 use mathlib.Core.Path.{_≡_, refl, sym, ap, _∙_}
 use mathlib.Core.Bool.{Bool, true, false}
 use mathlib.Core.List.{List, [], _∷_, _++_}
-use Prim.Native.Nat.{ℕ, zero, suc, _+_, _/_, _%_, _^_, _≤_, _<_}
+use Prim.Native.Nat.{ℕ, zero, suc, _+_, _-_, _*_, _/_, _%_, _^_, _≤_, _<_}
 use native.Mathlib.Nat.{pow-suc, pow-succ', div-lt-iff-lt-mul}
 use native.Mathlib.Omega.{arith}
 use lib.Dec.{T, leb, ltb, eqb, eqb→eq, le→leb, ltb→lt, lt→ltb, nltb→le, not-T, lit<}
 use Rattle.smtlib.specs.Lexicon.{digit, all, isNumeral, numeral}
 use Rattle.smtlib.specs.Read.{as-word}
-use Rattle.smtlib.specs.Compose.{digits, decimal}
-use Rattle.smtlib.specs.Theorems.{DecimalSpells, DecimalDigits}
+use Rattle.smtlib.specs.Compose.{digits, decimal, value}
+use Rattle.smtlib.specs.Theorems.{DecimalSpells, DecimalDigits, DecimalMeans}
 use Rattle.smtlib.proofs.Bools.{is-true, true-holds, false-fails, both, all-snoc}
 
 is-digit : (n : ℕ) → n < 10 → T (digit (48 + n))
@@ -81,3 +82,23 @@ enough (suc n) = let h = enough n in rw (pow-succ' 10 (suc n)) (omega arith)
 pub decimal-digits : DecimalDigits
 unfolding decimal
 decimal-digits f n h = digits-agree n f n (enough n) h
+
+-- one digit more
+value-snoc : (m : ℕ) (w : List ℕ) (b : ℕ) → value m (w ++ (b ∷ [])) ≡ 10 * value m w + (b - 48)
+value-snoc m [] b = refl
+value-snoc m (a ∷ w) b = value-snoc (10 * m + (a - 48)) w b
+
+value-digits : (f n : ℕ) → n < f → value 0 (digits f n) ≡ n
+value-digits zero n h = let z : ⊥ = omega arith in absurd z
+value-digits (suc f) n h = go (ltb n 10) refl (value-digits f (n / 10))
+  where
+    go : (v : Bool) → ltb n 10 ≡ v → (n / 10 < f → value 0 (digits f (n / 10)) ≡ n / 10) → value 0 (digits (suc f) n) ≡ n
+    go true e ih = ap (value 0) (one-digit f n e) ∙ omega arith
+    go false e ih =
+        let k : 10 ≤ n = nltb→le n 10 (false-fails e) in
+        let l : value 0 (digits f (n / 10)) ≡ n / 10 = ih (omega arith) in
+        ap (value 0) (more-digits f n e) ∙ value-snoc 0 (digits f (n / 10)) (48 + n % 10) ∙ omega arith
+
+pub decimal-means : DecimalMeans
+unfolding decimal
+decimal-means n = value-digits (suc n) n (omega arith)

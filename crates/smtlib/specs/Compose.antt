@@ -1,7 +1,7 @@
 -- What a part of a text spells, whatever stands behind it: how a writer's text is taken apart.
 use mathlib.Core.Bool.{Bool, not, cond}
 use mathlib.Core.List.{List, [], _∷_, _++_}
-use Prim.Native.Nat.{ℕ, zero, suc, _+_, _/_, _%_}
+use Prim.Native.Nat.{ℕ, zero, suc, _+_, _-_, _*_, _/_, _%_}
 use Prim.Native.Char.{code}
 use lib.Dec.{ltb, eqb}
 use Rattle.smtlib.specs.Read.{Item, Parted, Lexes, Sexps, end, atom, list, items, Command, Reading}
@@ -49,3 +49,8 @@ digits (suc f) n = cond (ltb n 10) ((code "0" + n) ∷ []) (digits f (n / 10) ++
 -- The decimal of n, without leading zeros: n has at most n + 1 digits.
 unfoldable pub decimal : ℕ → List ℕ
 decimal n = digits (suc n) n
+
+-- The number that decimal digits stand for, behind the number read so far.
+abbrev pub value : ℕ → List ℕ → ℕ
+value n [] = n
+value n (b ∷ w) = value (10 * n + (b - code "0")) w

@@ -29,6 +29,11 @@ same (a ∷ v) [] = false
 same (a ∷ v) (b ∷ w) = eqb a b && same v w
 
 -- A word is one of those listed.
+abbrev pub isOne : List ℕ → List (List ℕ) → Bool
+isOne w [] = false
+isOne w (v ∷ vs) = same w v || isOne w vs
+
+-- A word is one of the fixed texts listed.
 abbrev pub among : List ℕ → List String → Bool
 among w [] = false
 among w (s ∷ ss) = same w (bytes s) || among w ss

@@ -8,7 +8,7 @@ use lib.ListN.{length, take}
 use Rattle.smtlib.specs.Lexicon.{visible, all, numeral}
 use Rattle.smtlib.specs.Read.{Token, word, string, Spells, Sexps, end, atom, list, Command, Reading}
 use Rattle.smtlib.specs.Cut.{outside, closed}
-use Rattle.smtlib.specs.Compose.{append, Says, Follows, Writes, paren, quotes, line, noQuote, digits, decimal}
+use Rattle.smtlib.specs.Compose.{append, Says, Follows, Writes, paren, quotes, line, noQuote, digits, decimal, value}
 
 -- READINGS AND CUTS
 
@@ -75,3 +75,7 @@ DecimalSpells = (n : ℕ) → Spells (decimal n) (word numeral (decimal n))
 -- For a number of at most f + 1 digits, f + 1 places are enough. (proofs/Decimal.antt: decimal-digits)
 abbrev pub DecimalDigits : Type 0
 DecimalDigits = (f n : ℕ) → n < 10 ^ suc f → decimal n ≡ digits (suc f) n
+
+-- The decimal of a number means that number: its digits, read back, give it. (proofs/Decimal.antt: decimal-means)
+abbrev pub DecimalMeans : Type 0
+DecimalMeans = (n : ℕ) → value 0 (decimal n) ≡ n

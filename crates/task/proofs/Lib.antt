@@ -7,3 +7,4 @@ pub mod Judging
 pub mod Items
 pub mod Examples
 pub mod Levels
+pub mod Returning

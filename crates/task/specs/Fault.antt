@@ -7,7 +7,7 @@ use mathlib.Core.Option.{Option, none, some}
 use Prim.Native.Char.{code}
 use lib.Dec.{leb, eqb}
 use lib.ListN.{length}
-use Rattle.smtlib.specs.Lexicon.{all, same, visible, isSymbol}
+use Rattle.smtlib.specs.Lexicon.{all, isOne, visible, isSymbol}
 use Rattle.task.specs.declared.Fault.{Fault}
 use Rattle.task.specs.declared.Fault.the-variants.{Text, NoConstructors, BitVecWidth, Unqualified, WKVar, Arity, Shadowed, Sound}
 use Rattle.task.specs.declared.ThyFunc.{ThyFunc}
@@ -203,11 +203,6 @@ unfoldable mutual
 unfoldable pub predFault : Pred → Fault
 predFault (Pred.kvar k es) = lower (nameFault k) (exprsFault es)
 predFault (Pred.expr e) = exprFault false e
-
--- a name is one of those listed
-abbrev pub isOne : List ℕ → List (List ℕ) → Bool
-isOne x [] = false
-isOne x (y ∷ ys) = same x y || isOne x ys
 
 -- 7: a ForAll is not named like one around it
 unfoldable pub shadowFault : List (List ℕ) → List ℕ → Fault

@@ -1,12 +1,16 @@
--- What the writers will need of faults and sections.
+-- What the writers need of faults and sections, and that faults cover what the source panics on.
 use Prim.Native.Nat.{ℕ, zero, suc, _<_, _≤_}
 use mathlib.Core.Path.{_≡_}
+use mathlib.Core.Bool.{false}
 use mathlib.Core.List.{List, [], _∷_}
+use lib.Dec.{T}
 use lib.ListN.{length, getD}
 use Rattle.task.specs.declared.Fault.{Fault}
 use Rattle.task.specs.declared.Fault.the-variants.{Sound}
+use Rattle.task.specs.Ast.{Sort, Binder, Expr, Pred, DataDecl, FunDef, KVarDecl}
 use Rattle.task.specs.Decode.{got, Decoder, _▹_, many, binder, decPred, section}
-use Rattle.task.specs.Fault.{lower}
+use Rattle.task.specs.Fault.{lower, sortFault, binderFault, exprFault, predFault, datatypeFault, functionFault, kvarFault}
+use Rattle.task.specs.Returns.{write-sort-returns, write-expr-returns, write-pred-returns, write-datatype-decl-returns, write-const-decl-returns, write-fun-def-returns, write-kvar-decl-returns}
 use Rattle.task.specs.Covers.{CoversSome}
 
 -- A piece's fault is put together by `lower`; there is none exactly if there is none in its parts.
@@ -38,3 +42,14 @@ pub record Agrees {A : Type 0} (d e : Decoder A) : Type 0 where
 pub record Deeper : Type 0 where
   pub binders : (l m : ℕ) → l ≤ m → Agrees (binder l) (binder m)
   pub preds : (l m : ℕ) → l ≤ m → (n : ℕ) → Agrees (many [] _∷_ (decPred l) n) (many [] _∷_ (decPred m) n)
+
+-- Where a piece is without fault the source's writer returns, whatever datatypes are declared: what it panics on is refused.
+-- (proofs/Returning.antt: returning)
+pub record Returning (ds : List DataDecl) : Type 0 where
+  pub sorts : (b : Sort) → sortFault false b ≡ Sound → T (write-sort-returns ds b)
+  pub exprs : (e : Expr) → exprFault false e ≡ Sound → T (write-expr-returns ds e)
+  pub preds : (p : Pred) → predFault p ≡ Sound → T (write-pred-returns ds p)
+  pub datatypes : (d : DataDecl) → datatypeFault d ≡ Sound → T (write-datatype-decl-returns ds d)
+  pub constants : (b : Binder) → binderFault b ≡ Sound → T (write-const-decl-returns ds b)
+  pub functions : (f : FunDef) → functionFault f ≡ Sound → T (write-fun-def-returns ds f)
+  pub kvars : (k : KVarDecl) → kvarFault k ≡ Sound → T (write-kvar-decl-returns ds k)

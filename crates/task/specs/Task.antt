@@ -4,10 +4,10 @@ use mathlib.Core.Bool.{Bool, true, false, cond, not, _&&_}
 use mathlib.Core.List.{List, [], _∷_, _++_}
 use lib.Dec.{leb, ltb, eqb}
 use lib.ListN.{length, take, drop}
-use Rattle.smtlib.specs.Lexicon.{bytes, same}
+use Rattle.smtlib.specs.Lexicon.{bytes, same, isOne}
 use Rattle.task.specs.Ast.{Constant, Expr, Pred, Constraint, Constraints, DataCtor, DataDecl, Task}
 use Rattle.task.specs.Decode.{Res, got, refuse, bind, Decoder, little, comment, datatype, constant, function, kvar, decConstraint, deepest, section}
-use Rattle.task.specs.Fault.{isOne, refusalOf, taskFault}
+use Rattle.task.specs.Fault.{refusalOf, taskFault}
 
 -- where the trailer begins
 abbrev pub trailerAt : List ℕ → ℕ

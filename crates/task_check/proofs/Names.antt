@@ -3,12 +3,11 @@ use mathlib.Core.Path.{_≡_, refl, sym, _∙_}
 use mathlib.Core.Bool.{Bool, true, false, _||_}
 use mathlib.Core.List.{List}
 use Prim.Native.Nat.{ℕ}
-use Rattle.smtlib.specs.Lexicon.{same}
+use Rattle.smtlib.specs.Lexicon.{same, isOne}
 use Rattle.task.specs.declared.Span.{Span}
 use Rattle.task.specs.declared.SpanRead.{SpanRead}
 use Rattle.task.specs.declared.SpanRead.the-variants as span-is
 use Rattle.task.specs.Decode.{name}
-use Rattle.task.specs.Fault.{isOne}
 use Rattle.task.specs.Node.{bytesOf, spanOf}
 use Rattle.task_check.specs.Walk.{namedAt}
 

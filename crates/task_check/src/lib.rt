@@ -11,10 +11,10 @@ ghost use mathlib.Core.Path.{_≡_};
 ghost use Prim.Native.Nat.{_+_, _<_};
 ghost use mathlib.Core.Bool.{true, false};
 ghost use mathlib.Core.List.{[], _∷_};
-ghost use Rattle.smtlib.specs.Lexicon.{all};
+ghost use Rattle.smtlib.specs.Lexicon.{all, isOne};
 ghost use Rattle.task.specs.Ast.{Sorts, Exprs};
 ghost use Rattle.task.specs.Decode.{many, name, binder, given, decSort, decExpr, decPred};
-ghost use Rattle.task.specs.Fault.{rank as rankOf, lower as lowerOf, isOne, each, nameFault, shown, textFault, widthFault, sortFault, sortsFault, binderFault, needsSort, thyFuncFault, givenFault, exprFault, exprsFault, predFault};
+ghost use Rattle.task.specs.Fault.{rank as rankOf, lower as lowerOf, each, nameFault, shown, textFault, widthFault, sortFault, sortsFault, binderFault, needsSort, thyFuncFault, givenFault, exprFault, exprsFault, predFault};
 ghost use Rattle.task.specs.Node.{bytesOf};
 ghost use Rattle.task_check.specs.Walk.{walked, after as afterOf, sortParts, exprParts, applied, quantified, readTrue, namedAt};
 

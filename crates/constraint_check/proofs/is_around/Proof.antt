@@ -3,7 +3,7 @@ use mathlib.Core.Path.{_≡_, refl}
 use mathlib.Core.Bool.{true}
 use Prim.Native.Nat.{_-_}
 use lib.ListN.{length, drop}
-use Rattle.task.specs.Fault.{isOne}
+use Rattle.smtlib.specs.Lexicon.{isOne}
 use Rattle.constraint_check.specs.Around.{namesOn}
 use Rattle.constraint_check.proofs.Names.{around-goes, around-stops, around-ends}
 use borrow.Author.Needs.{needs}

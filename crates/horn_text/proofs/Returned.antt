@@ -1,0 +1,46 @@
+-- For a task without fault the source's writer returns: `script-returns`.
+use mathlib.Core.Path.{_≡_, refl}
+use mathlib.Core.Bool.{_&&_}
+use mathlib.Core.List.{List, []}
+use lib.Dec.{T}
+use Rattle.smtlib.proofs.Bools.{both}
+use Rattle.task.specs.declared.Fault.the-variants.{Sound}
+use Rattle.task.specs.Ast.{DataDecl}
+use Rattle.task.specs.Fault.{each, binderFault, predFault, datatypeFault, functionFault, kvarFault, taskFault}
+use Rattle.task.specs.Laws.{SoundParts}
+use Rattle.task.specs.Returns.{every, write-binders-return, write-pred-returns, write-datatype-decl-returns, write-const-decl-returns, write-fun-def-returns, write-kvar-decl-returns}
+use Rattle.task.proofs.Judging.{sound-parts}
+use Rattle.task.proofs.Returning.{every-returns, binders-return, returning}
+use Rattle.horn_text.specs.Clauses.{HornClause, clausesOf}
+use Rattle.horn_text.specs.Returns.{write-assert-returns, write-smt-horn-returns}
+use Rattle.horn_text.specs.Theorems.{ScriptReturns}
+use Rattle.horn_text.proofs.Readings.{clauseFault, clauses-sound}
+open SoundParts sound-parts using (none-left, none-right)
+
+assert-returns : (ds : List DataDecl) (c : HornClause) → clauseFault c ≡ Sound → T (write-assert-returns ds c)
+unfolding clauseFault write-assert-returns
+assert-returns ds c h =
+    let k = none-right _ _ h in
+    both (write-binders-return ds (c .vars)) _ (binders-return ds (c .vars) (none-left _ _ h))
+    (both (every (write-pred-returns ds) (c .guards)) _
+    (every-returns predFault (write-pred-returns ds) (returning ds .preds) (c .guards) (none-left _ _ k))
+    (returning ds .preds (c .head) (none-right _ _ k)))
+
+pub script-returns : ScriptReturns
+unfolding taskFault write-smt-horn-returns
+script-returns t h =
+    let ds = t .datatypes in
+    let h1 = none-right _ _ h in
+    let h2 = none-right _ _ h1 in
+    let h3 = none-right _ _ h2 in
+    let h4 = none-right _ _ h3 in
+    both (every (write-datatype-decl-returns ds) ds) _
+    (every-returns datatypeFault (write-datatype-decl-returns ds) (returning ds .datatypes) ds (none-left _ _ h1))
+    (both (every (write-const-decl-returns ds) (t .constants)) _
+    (every-returns binderFault (write-const-decl-returns ds) (returning ds .constants) (t .constants) (none-left _ _ h2))
+    (both (every (write-fun-def-returns ds) (t .functions)) _
+    (every-returns functionFault (write-fun-def-returns ds) (returning ds .functions) (t .functions) (none-left _ _ h3))
+    (both (every (write-kvar-decl-returns ds) (t .kvars)) _
+    (every-returns kvarFault (write-kvar-decl-returns ds) (returning ds .kvars) (t .kvars) (none-left _ _ h4))
+    (every-returns clauseFault (write-assert-returns ds) (assert-returns ds) (clausesOf t)
+    (clauses-sound [] (t .constraint) [] [] refl refl (none-right _ _ h4))))))
