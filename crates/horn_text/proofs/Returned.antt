@@ -1,14 +1,15 @@
 -- For a task without fault the source's writer returns: `script-returns`.
 use mathlib.Core.Path.{_≡_, refl}
-use mathlib.Core.Bool.{_&&_}
-use mathlib.Core.List.{List, []}
+use mathlib.Core.Bool.{not, _&&_}
+use mathlib.Core.List.{List, [], _∷_}
 use lib.Dec.{T}
+use Rattle.smtlib.specs.Lexicon.{bytes}
 use Rattle.smtlib.proofs.Bools.{both}
 use Rattle.task.specs.declared.Fault.the-variants.{Sound}
-use Rattle.task.specs.Ast.{DataDecl}
+use Rattle.task.specs.Ast.{Sort, Expr, Pred, DataDecl}
 use Rattle.task.specs.Fault.{each, binderFault, predFault, datatypeFault, functionFault, kvarFault, taskFault}
 use Rattle.task.specs.Laws.{SoundParts}
-use Rattle.task.specs.Returns.{every, write-binders-return, write-pred-returns, write-datatype-decl-returns, write-const-decl-returns, write-fun-def-returns, write-kvar-decl-returns}
+use Rattle.task.specs.Returns.{every, write-sort-returns, write-binders-return, write-expr-returns, write-pred-returns, write-datatype-decl-returns, write-const-decl-returns, write-fun-def-returns, write-kvar-decl-returns}
 use Rattle.task.proofs.Judging.{sound-parts}
 use Rattle.task.proofs.Returning.{every-returns, binders-return, returning}
 use Rattle.horn_text.specs.Clauses.{HornClause, clausesOf}
@@ -44,3 +45,14 @@ script-returns t h =
     (every-returns kvarFault (write-kvar-decl-returns ds) (returning ds .kvars) (t .kvars) (none-left _ _ h4))
     (every-returns clauseFault (write-assert-returns ds) (assert-returns ds) (clausesOf t)
     (clauses-sound [] (t .constraint) [] [] refl refl (none-right _ _ h4))))))
+
+-- An assertion panics where a binder's sort, a guard or the head does.
+abbrev clause : Sort → Expr → Expr → HornClause
+clause b g h = record { vars = record { name = bytes "x"; sort = b } ∷ []; guards = Pred.expr g ∷ []; head = Pred.expr h }
+
+abbrev x : Expr
+x = Expr.var (bytes "x")
+
+pub asserts-panic : T (every (λ c. not (write-assert-returns [] c)) (clause (Sort.bvSize 8) x x ∷ clause Sort.int Expr.wkVar x ∷ clause Sort.int x Expr.wkVar ∷ []))
+unfolding write-sort-returns write-expr-returns write-pred-returns write-assert-returns
+asserts-panic = tt

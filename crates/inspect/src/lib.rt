@@ -241,7 +241,8 @@ fn conclude(b: Bounds, declarations: u64, fault: Fault, c: Counted) -> Inspected
     let walked = c.walked;
     match walked {
         Walked::Next(p, f) => {
-            if p == b.end {
+            let end = b.end;
+            if p == end {
                 judge(b, declarations, c.heads, task_check::lower(fault, f))
             } else {
                 Inspected::Refused(2)

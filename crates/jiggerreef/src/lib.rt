@@ -10,7 +10,8 @@ ghost use Rattle.horn_text.specs.Demand.{Promised};
 ghost use Rattle.smt_horn.specs.Calls.{written as answered};
 ghost use Rattle.jiggerreef.specs.Archive.{number, stored};
 
-// Stores the numbers of parts and of assertions, the length of the script and that of its longest part; or answers 1 to 7.
+// Stores the numbers of parts and of assertions, the length of the script and that of its longest part; or answers the number of the
+// refusal.
 #[no_mangle]
 pub extern "C" fn jiggerreef_survey(file: &[u8], sizes: &mut [usize; 4]) -> u8
     ensures { λ r. ⌜ (r ≡ number (surveyAnswer (now (file .entry)))) × (now (sizes .exit) ≡ stored (surveyAnswer (now (file .entry))) (now (sizes .entry))) ⌝ }
@@ -38,8 +39,8 @@ fn store_length(written: Written, len: &mut usize) -> u8
     }
 }
 
-// Writes part i to the buffer's start and stores its length; or answers 1 to 7, then 8 if there is no such part, then 9 if it is longer than
-// the buffer.
+// Writes part i to the buffer's start and stores its length; or answers survey's refusal, then 8 if there is no such part, then 9 if it is
+// longer than the buffer.
 #[no_mangle]
 pub extern "C" fn jiggerreef_part(file: &[u8], i: usize, buf: &mut [u8], len: &mut usize) -> u8
     ensures { λ r. ⌜ (r ≡ number (partAnswer (now (file .entry)) i (length (now (buf .entry))))) × (now (len .exit) ∷ [] ≡ stored (partAnswer (now (file .entry)) i (length (now (buf .entry)))) (now (len .entry) ∷ [])) × (now (buf .exit) ≡ partBuffer (now (file .entry)) i (now (buf .entry))) ⌝ }
@@ -48,8 +49,8 @@ pub extern "C" fn jiggerreef_part(file: &[u8], i: usize, buf: &mut [u8], len: &m
     store_length(written, len)
 }
 
-// Writes the script to the buffer's start and stores its length; or answers 1 to 7, then 9 if it is longer than the buffer. What the buffer
-// then holds carries demand 3.
+// Writes the script to the buffer's start and stores its length; or answers survey's refusal, then 9 if it is longer than the buffer. What
+// the buffer then holds carries demand 3.
 #[no_mangle]
 pub extern "C" fn jiggerreef_script(file: &[u8], buf: &mut [u8], len: &mut usize) -> u8
     ensures { λ r. ⌜ (r ≡ number (scriptAnswer (now (file .entry)) (length (now (buf .entry))))) × (now (len .exit) ∷ [] ≡ stored (scriptAnswer (now (file .entry)) (length (now (buf .entry)))) (now (len .entry) ∷ [])) × (now (buf .exit) ≡ scriptBuffer (now (file .entry)) (now (buf .entry))) ⌝ }

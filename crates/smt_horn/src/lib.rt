@@ -44,7 +44,7 @@ fn one_part(i: usize) -> Range
     }
 }
 
-// The numbers of parts and of assertions, the length of the script and that of its longest part; or refusals 1 to 7.
+// The numbers of parts and of assertions, the length of the script and that of its longest part; or the number of a refusal.
 pub fn survey(file: &[u8]) -> Surveyed
     ensures { λ r. ⌜ surveyed r ≡ surveyAnswer (now (file .entry)) ⌝ }
 {
@@ -75,7 +75,7 @@ fn part_of(file: &[u8], b: Bounds, i: usize, buf: &mut [u8]) -> Written
     Written::Length(put.len)
 }
 
-// Writes part i to the buffer's start; or refusals 1 to 7, then 8 if there is no such part, then 9 if it is longer than the buffer.
+// Writes part i to the buffer's start; or survey's refusal, then 8 if there is no such part, then 9 if it is longer than the buffer.
 pub fn part(file: &[u8], i: usize, buf: &mut [u8]) -> Written
     ensures { λ r. ⌜ (written r ≡ partAnswer (now (file .entry)) i (length (now (buf .entry)))) × (now (buf .exit) ≡ partBuffer (now (file .entry)) i (now (buf .entry))) ⌝ }
 {
@@ -100,7 +100,7 @@ fn script_of(file: &[u8], b: Bounds, buf: &mut [u8]) -> Written
     Written::Length(put.len)
 }
 
-// Writes the script to the buffer's start; or refusals 1 to 7, then 9 if it is longer than the buffer. What the buffer then holds carries
+// Writes the script to the buffer's start; or survey's refusal, then 9 if it is longer than the buffer. What the buffer then holds carries
 // demand 3.
 pub fn script(file: &[u8], buf: &mut [u8]) -> Written
     ensures { λ r. ⌜ (written r ≡ scriptAnswer (now (file .entry)) (length (now (buf .entry)))) × (now (buf .exit) ≡ scriptBuffer (now (file .entry)) (now (buf .entry))) ⌝ }

@@ -1,17 +1,21 @@
 -- Worked examples, computed from the definitions.
 use mathlib.Core.Path.{_≡_, refl}
-use mathlib.Core.Bool.{true, false}
+use mathlib.Core.Bool.{true, false, not}
 use mathlib.Core.List.{List, [], _∷_}
-use mathlib.Core.Option.{none, some}
+use mathlib.Core.Option.{Option, none, some}
 use Prim.Native.Nat.{ℕ}
+use lib.Dec.{T}
 use Rattle.smtlib.specs.Lexicon.{bytes, reservedWords}
+use Rattle.task.specs.declared.BinOp.the-variants.{Add}
 use Rattle.task.specs.declared.BinRel.the-variants.{Ge}
-use Rattle.task.specs.declared.ThyFunc.the-variants.{SetEmpty}
+use Rattle.task.specs.declared.Quantifier.the-variants.{Exists}
+use Rattle.task.specs.declared.ThyFunc.the-variants.{SetEmpty, MapDefault}
 use Rattle.task.specs.declared.Fault.the-variants.{Text, NoConstructors, BitVecWidth, Unqualified, WKVar, Arity, Shadowed, Sound}
-use Rattle.task.specs.Ast.{Sort, Sorts, Constant, Expr, Exprs, Pred, Constraint, Constraints, Task}
+use Rattle.task.specs.Ast.{SortCtor, Sort, Sorts, Constant, Expr, Exprs, Pred, Constraint, Constraints, DataDecl, FunBody, FunDef, Task}
 use Rattle.task.specs.Decode.{got, refuse, raw, items, sortForms, decSort, binRels, exprForms, decExpr, decPred, decConstraint}
 use Rattle.task.specs.Fault.{lower, nameFault, sortFault, sortsFault, binderFault, needsSort, thyFuncFault, exprFault, exprsFault, predFault, shadowFault, constraintFault, constraintsFault, emptyFault, datatypeFault, arityFault, bodyFault, kvarFault, taskFault}
 use Rattle.task.specs.Task.{bound, framed, decoded, judged, taskOf, literallyTrue, predHeads, headsOf, headsIn, declarations}
+use Rattle.task.specs.Returns.{every, write-sort-returns, write-thy-func-returns, write-application-head-returns, write-expr-returns, write-pred-returns, write-datatype-decl-returns, write-const-decl-returns, write-fun-def-returns, write-kvar-decl-returns}
 
 -- 27 zero bytes are too short.
 pub zeros : List ℕ
@@ -133,3 +137,101 @@ beside = refl
 pub empty-and : literallyTrue (Pred.expr (Expr.and Exprs.none)) ≡ false
 unfolding literallyTrue
 empty-and = refl
+
+-- Where the source panics: at each of these forms, since a piece that panics stands in a place of it that is written.
+abbrev x : Expr
+x = Expr.var (bytes "x")
+
+abbrev width-8 : Sort
+width-8 = Sort.bvSize 8
+
+abbrev exprs : Expr → Expr → Exprs
+exprs a b = Exprs.more a (Exprs.more b Exprs.none)
+
+abbrev sorts : Sort → Sort → Sorts
+sorts a b = Sorts.more a (Sorts.more b Sorts.none)
+
+-- the datatype L with the constructor c
+abbrev datatype-l : List DataDecl
+datatype-l = record { name = bytes "L"; vars = 0; ctors = record { name = bytes "c"; fields = [] } ∷ [] } ∷ []
+
+-- applied to x
+abbrev applied : Expr → Option Sort → Expr
+applied h o = Expr.app h (Exprs.more x Exprs.none) o
+
+-- sorts of which one is written that panics
+abbrev panicking-sorts : List Sort
+panicking-sorts =
+    width-8 ∷ Sort.bitVec Sort.int ∷ Sort.bitVec Sort.bool ∷ Sort.bitVec Sort.real ∷ Sort.bitVec Sort.str ∷ Sort.bitVec (Sort.bitVec width-8) ∷
+    Sort.bitVec (Sort.var 0) ∷ Sort.bitVec (Sort.func Sort.int Sort.int) ∷ Sort.bitVec (Sort.abs 1 Sort.int) ∷
+    Sort.bitVec (Sort.app SortCtor.set Sorts.none) ∷ Sort.func width-8 Sort.int ∷ Sort.func Sort.int width-8 ∷
+    Sort.abs 1 width-8 ∷ Sort.app SortCtor.set (sorts width-8 Sort.int) ∷ Sort.app SortCtor.map (sorts Sort.int width-8) ∷
+    Sort.app (SortCtor.named (bytes "L")) (sorts Sort.int width-8) ∷ []
+
+-- expressions
+abbrev panicking-exprs : List Expr
+panicking-exprs =
+    Expr.wkVar ∷ Expr.thyFunc SetEmpty ∷ Expr.thyFunc MapDefault ∷ applied Expr.wkVar none ∷ applied (Expr.thyFunc SetEmpty) none ∷
+    applied (Expr.thyFunc SetEmpty) (some width-8) ∷ applied (Expr.var (bytes "c")) (some width-8) ∷
+    Expr.app x (exprs Expr.wkVar x) none ∷ Expr.app x (exprs x Expr.wkVar) none ∷ Expr.neg Expr.wkVar ∷ Expr.not Expr.wkVar ∷
+    Expr.binaryOp Add Expr.wkVar x ∷ Expr.binaryOp Add x Expr.wkVar ∷ Expr.ifThenElse Expr.wkVar x x ∷ Expr.ifThenElse x Expr.wkVar x ∷
+    Expr.ifThenElse x x Expr.wkVar ∷ Expr.and (exprs Expr.wkVar x) ∷ Expr.and (exprs x Expr.wkVar) ∷ Expr.or (exprs x Expr.wkVar) ∷
+    Expr.imp Expr.wkVar x ∷ Expr.imp x Expr.wkVar ∷ Expr.iff Expr.wkVar x ∷ Expr.iff x Expr.wkVar ∷ Expr.atom Ge Expr.wkVar x ∷
+    Expr.atom Ge x Expr.wkVar ∷ Expr.letIn (bytes "y") Expr.wkVar x ∷ Expr.letIn (bytes "y") x Expr.wkVar ∷ Expr.isCtor (bytes "c") Expr.wkVar ∷
+    Expr.quantifier Exists (record { name = bytes "y"; sort = width-8 } ∷ []) x ∷ Expr.quantifier Exists [] Expr.wkVar ∷ []
+
+-- What is not written does not make it panic: arguments of a datatype that is not declared, and an output sort that the head has no use for.
+abbrev unwritten : List Expr
+unwritten =
+    Expr.quantifier Exists (record { name = bytes "y"; sort = Sort.app (SortCtor.named (bytes "M")) (sorts Sort.int width-8) } ∷ []) x ∷
+    applied x (some width-8) ∷ applied (Expr.not x) (some width-8) ∷ []
+
+pub sorts-panic : T (every (λ b. not (write-sort-returns datatype-l b)) panicking-sorts)
+unfolding write-sort-returns
+sorts-panic = tt
+
+pub exprs-panic : T (every (λ e. not (write-expr-returns datatype-l e)) panicking-exprs)
+unfolding write-sort-returns write-thy-func-returns write-application-head-returns write-expr-returns
+exprs-panic = tt
+
+-- also as heads
+pub heads-panic : T (every (λ e. not (write-expr-returns datatype-l (applied e none))) panicking-exprs)
+unfolding write-sort-returns write-thy-func-returns write-application-head-returns write-expr-returns
+heads-panic = tt
+
+pub unwritten-returns : T (every (write-expr-returns datatype-l) unwritten)
+unfolding write-sort-returns write-application-head-returns write-expr-returns
+unwritten-returns = tt
+
+-- a function from Int and another sort, with a body if one is given
+abbrev function-f : Sort → Sort → Option FunBody → FunDef
+function-f input output body = record { name = bytes "f"; params = 0; inputs = sorts Sort.int input; output = output; body = body }
+
+-- its body, with as many arguments as are given
+abbrev body-of : List (List ℕ) → Expr → Option FunBody
+body-of xs e = some (record { args = xs; expr = e })
+
+abbrev two-names : List (List ℕ)
+two-names = bytes "x" ∷ bytes "y" ∷ []
+
+-- predicates and declarations
+pub others-panic : T (every not (
+    write-pred-returns [] (Pred.kvar (bytes "k") (exprs x Expr.wkVar)) ∷
+    write-pred-returns [] (Pred.expr Expr.wkVar) ∷
+    write-datatype-decl-returns [] (record { name = bytes "D"; vars = 0; ctors = [] }) ∷
+    write-datatype-decl-returns [] (record { name = bytes "D"; vars = 0; ctors = record { name = bytes "c"; fields = record { name = bytes "f"; sort = width-8 } ∷ [] } ∷ [] }) ∷
+    write-const-decl-returns [] (record { name = bytes "n"; sort = width-8 }) ∷
+    write-fun-def-returns [] (function-f width-8 Sort.int none) ∷
+    write-fun-def-returns [] (function-f Sort.int width-8 none) ∷
+    write-fun-def-returns [] (function-f width-8 Sort.int (body-of two-names x)) ∷
+    write-fun-def-returns [] (function-f Sort.int width-8 (body-of two-names x)) ∷
+    write-fun-def-returns [] (function-f Sort.int Sort.int (body-of two-names Expr.wkVar)) ∷
+    write-kvar-decl-returns [] (record { kvid = bytes "k"; sorts = sorts Sort.int width-8 }) ∷
+    []))
+unfolding write-sort-returns write-expr-returns write-pred-returns write-datatype-decl-returns write-const-decl-returns write-fun-def-returns write-kvar-decl-returns
+others-panic = tt
+
+-- an input without an argument name is not written
+pub dropped-returns : T (write-fun-def-returns [] (function-f width-8 Sort.int (body-of (bytes "x" ∷ []) x)))
+unfolding write-sort-returns write-expr-returns write-fun-def-returns
+dropped-returns = tt

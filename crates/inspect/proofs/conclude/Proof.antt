@@ -17,10 +17,10 @@ enum-known-walked-2 : tie.Need-enum-known-walked-2
 enum-known-walked-2 c = search needs
 
 returns : tie.Need-returns
-returns c = rw (c .before .before .before .before .before .walked .given .1, eq-eqb _ _ (c .before .before .if1 .taken), c .judge .ensures, c .before .lower .ensures)
+returns c = rw (c .before .before .before .before .walked .given .1, eq-eqb _ (c .before .before .before .before .before .before .args .b .end) (c .before .before .if1 .taken), c .judge .ensures, c .before .lower .ensures)
 
 returns-2 : tie.Need-returns-2
-returns-2 c = rw (c .before .before .before .walked .given .1, ne-eqb _ _ (c .if1 .left))
+returns-2 c = rw (c .before .before .walked .given .1, ne-eqb _ (c .before .before .before .before .args .b .end) (c .if1 .left))
 
 returns-3 : tie.Need-returns-3
 returns-3 c = rw (c .before .walked2 .given .1)

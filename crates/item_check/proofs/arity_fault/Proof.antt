@@ -6,11 +6,11 @@ use Rattle.item_check.proofs.arity_fault.Tie as tie
 
 returns : tie.Need-returns
 unfolding arityFault
-returns c = rw (eq-eqb _ _ (c .if1 .taken))
+returns c = rw (eq-eqb _ (c .before .args .inputs) (c .if1 .taken))
 
 returns-2 : tie.Need-returns-2
 unfolding arityFault
-returns-2 c = rw (ne-eqb _ _ (c .if1 .left))
+returns-2 c = rw (ne-eqb _ (c .before .args .inputs) (c .if1 .left))
 
 pub arity-fault-spec : {M : Type 1} → statement M
 arity-fault-spec = tie.close (tie.spec returns returns-2)

@@ -6,11 +6,11 @@ use Rattle.item_check.proofs.empty_fault.Tie as tie
 
 returns : tie.Need-returns
 unfolding emptyFault
-returns c = rw (eq-eqb _ _ (c .if1 .taken))
+returns c = rw (eq-eqb _ 0 (c .if1 .taken))
 
 returns-2 : tie.Need-returns-2
 unfolding emptyFault
-returns-2 c = rw (ne-eqb _ _ (c .if1 .left))
+returns-2 c = rw (ne-eqb _ 0 (c .if1 .left))
 
 pub empty-fault-spec : {M : Type 1} → statement M
 empty-fault-spec = tie.close (tie.spec returns returns-2)
