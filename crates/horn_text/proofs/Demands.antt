@@ -116,6 +116,7 @@ demand1 = record {
   returns = λ file t end e. script-returns t (task-sound file t end e);
   part = λ file n i room e. rw (survey-refused (taskOf file) n e);
   script = λ file n room e. rw (survey-refused (taskOf file) n e);
+  survey-refuses = λ file t end e n h. got-refuse (sym e ∙ survey-refused (taskOf file) n h);
   part-refuses = λ file t end e i room n. rw e (part-refused t end i room n);
   script-refuses = λ file t end e room n. rw e (fitted-refused (scriptOf t) room n);
   part-unchanged = λ file i n buf e. part-left (taskOf file) i n buf e;

@@ -2,17 +2,19 @@
 use mathlib.Core.Path.{_≡_, refl}
 use mathlib.Core.Bool.{not, _&&_}
 use mathlib.Core.List.{List, [], _∷_}
+use mathlib.Core.Option.{none}
 use lib.Dec.{T}
 use Rattle.smtlib.specs.Lexicon.{bytes}
 use Rattle.smtlib.proofs.Bools.{both}
 use Rattle.task.specs.declared.Fault.the-variants.{Sound}
-use Rattle.task.specs.Ast.{Sort, Expr, Pred, DataDecl}
+use Rattle.task.specs.Ast.{Sort, Sorts, Binder, Expr, Pred, Constraint, Constraints, DataDecl, FunDef, KVarDecl, Task}
 use Rattle.task.specs.Fault.{each, binderFault, predFault, datatypeFault, functionFault, kvarFault, taskFault}
 use Rattle.task.specs.Laws.{SoundParts}
+use Rattle.task.specs.Task.{literallyTrue}
 use Rattle.task.specs.Returns.{every, write-sort-returns, write-binders-return, write-expr-returns, write-pred-returns, write-datatype-decl-returns, write-const-decl-returns, write-fun-def-returns, write-kvar-decl-returns}
 use Rattle.task.proofs.Judging.{sound-parts}
 use Rattle.task.proofs.Returning.{every-returns, binders-return, returning}
-use Rattle.horn_text.specs.Clauses.{HornClause, clausesOf}
+use Rattle.horn_text.specs.Clauses.{HornClause, flatten-constraint, clausesOf}
 use Rattle.horn_text.specs.Returns.{write-assert-returns, write-smt-horn-returns}
 use Rattle.horn_text.specs.Theorems.{ScriptReturns}
 use Rattle.horn_text.proofs.Readings.{clauseFault, clauses-sound}
@@ -46,13 +48,43 @@ script-returns t h =
     (every-returns clauseFault (write-assert-returns ds) (assert-returns ds) (clausesOf t)
     (clauses-sound [] (t .constraint) [] [] refl refl (none-right _ _ h4))))))
 
--- An assertion panics where a binder's sort, a guard or the head does.
-abbrev clause : Sort → Expr → Expr → HornClause
-clause b g h = record { vars = record { name = bytes "x"; sort = b } ∷ []; guards = Pred.expr g ∷ []; head = Pred.expr h }
-
+-- Where it panics: an assertion by a binder's sort, a guard or the head, a script by each of its sections.
 abbrev x : Expr
 x = Expr.var (bytes "x")
 
-pub asserts-panic : T (every (λ c. not (write-assert-returns [] c)) (clause (Sort.bvSize 8) x x ∷ clause Sort.int Expr.wkVar x ∷ clause Sort.int x Expr.wkVar ∷ []))
+abbrev width-8 : Sort
+width-8 = Sort.bvSize 8
+
+abbrev clause : Sort → Expr → Expr → HornClause
+clause b g h = record { vars = record { name = bytes "x"; sort = b } ∷ []; guards = Pred.expr g ∷ []; head = Pred.expr h }
+
+pub asserts-panic : T (every (λ c. not (write-assert-returns [] c)) (clause width-8 x x ∷ clause Sort.int Expr.wkVar x ∷ clause Sort.int x Expr.wkVar ∷ []))
 unfolding write-sort-returns write-expr-returns write-pred-returns write-assert-returns
 asserts-panic = tt
+
+-- a task with these datatypes, constants, functions, KVars and constraint
+abbrev task-of : List DataDecl → List Binder → List FunDef → List KVarDecl → Constraint → Task
+task-of ds bs fs ks c = record { comments = []; datatypes = ds; constants = bs; functions = fs; kvars = ks; constraint = c }
+
+-- a Conj without members
+abbrev nothing : Constraint
+nothing = Constraint.conj Constraints.none
+
+-- ForAll x Int with a WKVar as its predicate
+abbrev weak-guard : Constraint → Constraint
+weak-guard c = Constraint.forAll (bytes "x") Sort.int (Pred.expr Expr.wkVar ∷ []) c
+
+pub scripts-panic : T (every (λ t. not (write-smt-horn-returns t)) (
+    task-of (record { name = bytes "D"; vars = 0; ctors = [] } ∷ []) [] [] [] nothing ∷
+    task-of [] (record { name = bytes "n"; sort = width-8 } ∷ []) [] [] nothing ∷
+    task-of [] [] (record { name = bytes "f"; params = 0; inputs = Sorts.none; output = width-8; body = none } ∷ []) [] nothing ∷
+    task-of [] [] [] (record { kvid = bytes "k"; sorts = Sorts.more width-8 Sorts.none } ∷ []) nothing ∷
+    task-of [] [] [] [] (weak-guard (Constraint.pred (Pred.expr x))) ∷
+    []))
+unfolding flatten-constraint literallyTrue write-sort-returns write-expr-returns write-pred-returns write-datatype-decl-returns write-const-decl-returns write-fun-def-returns write-kvar-decl-returns write-assert-returns write-smt-horn-returns
+scripts-panic = tt
+
+-- a guard over no head is not written
+pub no-head-returns : T (write-smt-horn-returns (task-of [] [] [] [] (weak-guard nothing)))
+unfolding flatten-constraint write-smt-horn-returns
+no-head-returns = tt

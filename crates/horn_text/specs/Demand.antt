@@ -52,7 +52,9 @@ pub record Demand1 : Type 0 where
   -- What survey refuses every call refuses, with that number.
   pub part : (file : List ℕ) (n i room : ℕ) → surveyAnswer file ≡ refused n → partAnswer file i room ≡ refused n
   pub script : (file : List ℕ) (n room : ℕ) → surveyAnswer file ≡ refused n → scriptAnswer file room ≡ refused n
-  -- Of a file that is accepted part refuses with 8 exactly if there is no such part, and else with 9 exactly if it is longer than the room;
+  -- Of a file that is accepted survey refuses nothing;
+  pub survey-refuses : (file : List ℕ) (t : Task) (end : ℕ) → taskOf file ≡ got t end → (n : ℕ) → surveyAnswer file ≡ refused n → ⊥
+  -- part refuses with 8 exactly if there is no such part, and else with 9 exactly if it is longer than the room;
   pub part-refuses : (file : List ℕ) (t : Task) (end : ℕ) → taskOf file ≡ got t end → (i room n : ℕ) → (partAnswer file i room ≡ refused n)
       ↔ (((n ≡ 8) × (length (partsOf t) ≤ i)) ⊎ ((n ≡ 9) × (i < length (partsOf t)) × (room < length (nth t i))))
   -- script refuses with 9 exactly if the script is longer than the room.
