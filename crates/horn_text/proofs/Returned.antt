@@ -1,6 +1,6 @@
 -- For a task without fault the source's writer returns: `script-returns`.
 use mathlib.Core.Path.{_≡_, refl}
-use mathlib.Core.Bool.{not, _&&_}
+use mathlib.Core.Bool.{not}
 use mathlib.Core.List.{List, [], _∷_}
 use mathlib.Core.Option.{none}
 use lib.Dec.{T}

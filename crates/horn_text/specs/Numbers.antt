@@ -2,15 +2,13 @@
 -- judging. docs/REFUSALS.md shows the same files.
 use Prim.Native.Nat.{ℕ, suc, min}
 use mathlib.Core.Path.{_≡_}
-use mathlib.Core.Bool.{Bool, cond}
+use mathlib.Core.Bool.{cond}
 use mathlib.Core.List.{List, [], _∷_, _++_, map}
-use lib.Dec.{T, eqb}
-use lib.ListN.{length, replicate}
+use lib.Dec.{eqb}
+use lib.ListN.{replicate}
 use Rattle.smtlib.specs.Lexicon.{bytes, any}
 use Rattle.task.specs.declared.Fault.{Fault}
-use Rattle.task.specs.declared.Fault.the-variants.{Text, NoConstructors, BitVecWidth, Unqualified, WKVar, Arity, Shadowed, Sound}
 use Rattle.task.specs.Fault.{refusalOf, lower}
-use Rattle.task.specs.Returns.{every}
 use Rattle.horn_text.specs.Answers.{refused, surveyPlaces, surveyNumbers, surveyAnswer}
 use Rattle.horn_text.specs.Table.{zeros, partCall, scriptCall, fileWith, constraintOnly, named, exprPred, head}
 
@@ -52,7 +50,7 @@ refusedFiles =
 
 -- THE ORDER
 
--- the place of a number on the list; a number that is not on it comes behind all
+-- the place of a number on the list; a number that is not on it has the place behind all
 abbrev pub place : List (List ℕ) → ℕ → ℕ
 place [] n = 0
 place (ns ∷ places) n = cond (any (eqb n) ns) 0 (suc (place places n))
@@ -61,21 +59,13 @@ place (ns ∷ places) n = cond (any (eqb n) ns) 0 (suc (place places n))
 abbrev pub placeOf : Fault → ℕ
 placeOf f = place surveyPlaces (refusalOf f)
 
--- every fault, and none
-abbrev pub faults : List Fault
-faults = Text ∷ NoConstructors ∷ BitVecWidth ∷ Unqualified ∷ WKVar ∷ Arity ∷ Shadowed ∷ Sound ∷ []
-
--- of two faults the one is judged whose number has the place further in front
-abbrev pub inOrder : Fault → Fault → Bool
-inOrder f g = eqb (placeOf (lower f g)) (min (placeOf f) (placeOf g))
-
 -- THE TABLE (proofs/Rows.antt: numbers)
 
 pub record Numbers : Type 0 where
   -- each number of the list is the answer to its file
   pub survey : map surveyAnswer refusedFiles ≡ map refused surveyNumbers
-  -- the faults are judged in the order of the list
-  pub order : T (every (λ f. every (inOrder f) faults) faults)
+  -- the faults are judged in the order of the list: of two the one whose number has the place further in front
+  pub order : (f g : Fault) → placeOf (lower f g) ≡ min (placeOf f) (placeOf g)
   -- there is no part 3 of the smallest file
   pub no-part : partCall smallest 3 (zeros 18) ≡ (refused 8, zeros 18)
   -- its opening has 18 bytes
