@@ -5,6 +5,7 @@ pub mod check;
 pub mod draft;
 pub mod faults;
 pub mod limits;
+pub mod returns;
 pub mod shrink;
 pub mod task;
 pub mod text;

@@ -285,10 +285,18 @@ impl<'a> Reader<'a> {
     }
 }
 
-/// The task, or the refusal: the first met of 1 to 3, else the lowest noted.
-pub fn accepted(file: &[u8]) -> Answer<Task<'_>> {
+/// The task with the bits of what was noted, or the first met of refusals 1 to 3.
+fn read(file: &[u8]) -> Answer<(Task<'_>, u8)> {
     let offsets = trailer(file)?;
     let mut reader = Reader { bytes: &file[..file.len() - TRAILER], at: 0, end: 0, faults: 0, around: Vec::new() };
-    let task = reader.task(&offsets)?;
-    if reader.faults == 0 { Ok(task) } else { Err(reader.faults.trailing_zeros() as u8) }
+    Ok((reader.task(&offsets)?, reader.faults))
 }
+
+/// The task, or the refusal: the first met of 1 to 3, else the lowest noted.
+pub fn accepted(file: &[u8]) -> Answer<Task<'_>> {
+    let (task, faults) = read(file)?;
+    if faults == 0 { Ok(task) } else { Err(faults.trailing_zeros() as u8) }
+}
+
+/// The task, refused with 4 to 7 or not.
+pub fn decoded(file: &[u8]) -> Answer<Task<'_>> { Ok(read(file)?.0) }

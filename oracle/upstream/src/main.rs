@@ -1,4 +1,5 @@
-//! Compares the scripts of the rendering with those of the source's own two files, on the accepted files at limits and by chance.
+//! Compares the rendering with the source's own two files, on files at limits and by chance: the scripts of accepted files, and of every file that
+//! decodes whether the source's writer returns.
 //!
 //!     oracle/upstream/run DIRECTORY [FILES [SEED]]
 //!
@@ -12,32 +13,51 @@ include!(concat!(env!("OUT_DIR"), "/modules.rs"));
 use oracle::chance::{Chance, SEED};
 use oracle::faults::any_kind;
 use oracle::limits::limits;
-use oracle::task::accepted;
+use oracle::returns::returns;
+use oracle::task::decoded;
 use oracle::text::rendered;
+use std::panic::{catch_unwind, set_hook, AssertUnwindSafe};
 use std::{env, process::ExitCode};
 use types::*;
 
 const FILES: usize = 100_000;
 
-/// Whether the two write the same; nothing for a refused file.
-fn same(file: &[u8]) -> Option<bool> {
-    let task = convert::task(accepted(file).ok()?);
-    Some(rendered(file).ok()?.script == smt_horn::SmtFormatter(&task).to_string())
+/// What was compared: a script, or that the writer panics; nothing for a file that does not decode.
+enum Compared { Script, Return, Panic, Nothing, Difference }
+
+fn compared(file: &[u8]) -> Compared {
+    let Ok(task) = decoded(file) else { return Compared::Nothing };
+    let returns = returns(&task);
+    let task = convert::task(task);
+    let Ok(script) = catch_unwind(AssertUnwindSafe(|| smt_horn::SmtFormatter(&task).to_string())) else {
+        return if returns { Compared::Difference } else { Compared::Panic };
+    };
+    match rendered(file) {
+        _ if !returns => Compared::Difference,
+        Ok(rendered) if rendered.script == script => Compared::Script,
+        Ok(_) => Compared::Difference,
+        Err(_) => Compared::Return,
+    }
 }
 
 fn main() -> ExitCode {
     let mut args = env::args().skip(1).map(|arg| arg.parse::<u64>().expect("a number"));
     let (files, seed) = (args.next().map_or(FILES, |files| files as usize), args.next().unwrap_or(SEED));
-    let (mut chance, mut scripts) = (Chance::new(seed), 0);
+    let (mut chance, mut scripts, mut others, mut panics) = (Chance::new(seed), 0, 0, 0);
+    set_hook(Box::new(|_| ()));
     let by_chance = (0..files).map(|_| any_kind(&mut chance).2.case(&mut chance).file);
     for file in limits().into_iter().map(|(_, case)| case.file).chain(by_chance) {
-        let same = same(&file);
-        if same == Some(false) {
-            println!("another script for {}", file.iter().map(|byte| format!("{byte:02x}")).collect::<String>());
-            return ExitCode::FAILURE;
+        match compared(&file) {
+            Compared::Script => scripts += 1,
+            Compared::Return => others += 1,
+            Compared::Panic => panics += 1,
+            Compared::Nothing => (),
+            Compared::Difference => {
+                println!("a difference at {}", file.iter().map(|byte| format!("{byte:02x}")).collect::<String>());
+                return ExitCode::FAILURE;
+            }
         }
-        scripts += same.is_some() as usize;
     }
-    println!("{scripts} scripts, 0 differences");
+    println!("{scripts} scripts, {panics} refused files on which the source panics, {others} on which it returns, 0 differences");
     ExitCode::SUCCESS
 }
