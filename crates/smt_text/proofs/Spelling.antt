@@ -10,7 +10,7 @@ use Rattle.smtlib.specs.Lexicon.{Kind, bytes, all, digit, letter, symbolByte, v
 use Rattle.smtlib.specs.Read.{Token, Spells, as-word, as-string, as-quoted, Sexps}
 use Rattle.smtlib.specs.Compose.{Says, Follows, Writes, line, noQuote, decimal}
 use Rattle.smtlib.specs.Theorems.{Composition}
-use Rattle.smtlib.proofs.Bools.{clash, and-left, and-right, both, all-map, is-true}
+use Rattle.smtlib.proofs.Bools.{clash, and-left, and-right, both, or-right, all-map, is-true}
 use Rattle.smtlib.proofs.Compose.{composition, string-spells}
 use Rattle.smtlib.proofs.Decimal.{decimal-spells}
 use Rattle.task.specs.declared.BinOp.{BinOp}
@@ -95,12 +95,8 @@ spelled-digits (as-word k w h) e = let l : k ≡ Kind.numeral = cc in numeral-di
 spelled-digits (as-string s h) e = clash (cc)
 spelled-digits (as-quoted s h) e = clash (cc)
 
-second : (a b : Bool) → T b → T (a || b)
-second true b h = tt
-second false b h = h
-
 digit-symbol : (b : ℕ) → T (digit b) → T (symbolByte b)
-digit-symbol b h = second (letter b) _ (rw (is-true (digit b) h) tt)
+digit-symbol b h = or-right (letter b) _ (rw (is-true (digit b) h) tt)
 
 -- letters and a number are a symbol where no reserved word begins so
 lettered : (w : List ℕ) → ((d : List ℕ) → isSymbol (w ++ d) ≡ all symbolByte d && true) → (n : ℕ)

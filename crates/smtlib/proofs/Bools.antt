@@ -44,6 +44,10 @@ pub both : (a b : Bool) → T a → T b → T (a && b)
 both true b s t = t
 both false b s t = absurd s
 
+pub or-right : (a b : Bool) → T b → T (a || b)
+or-right true b t = tt
+or-right false b t = t
+
 pub either : (a b : Bool) → T (a || b) → T a ⊎ T b
 either true b t = inl tt
 either false b t = inr t

@@ -1,35 +1,34 @@
 -- What is without fault the source writes without a panic: `returning`.
 use Prim.Native.Nat.{ℕ}
 use mathlib.Core.Path.{_≡_}
-use mathlib.Core.Bool.{Bool, true, false, cond, not, _||_}
+use mathlib.Core.Bool.{Bool, true, false, cond, not, _&&_}
 use mathlib.Core.List.{List, [], _∷_}
 use mathlib.Core.Option.{Option, none, some}
 use lib.Dec.{T}
 use lib.ListN.{length}
-use Rattle.smtlib.proofs.Bools.{clash, choice, both}
+use Rattle.smtlib.proofs.Bools.{clash, choice, both, or-right}
 use Rattle.task.specs.declared.Fault.{Fault}
 use Rattle.task.specs.declared.Fault.the-variants.{Sound}
 use Rattle.task.specs.declared.ThyFunc.{ThyFunc}
 use Rattle.task.specs.declared.ThyFunc.the-variants.{StrLen, StrConcat, StrPrefixOf, StrSuffixOf, StrContains, BvZeroExtend, BvSignExtend, IntToBv8, Bv8ToInt, IntToBv32, Bv32ToInt, IntToBv64, Bv64ToInt, IntToBv128, Bv128ToInt, BvUle, BvSle, BvUge, BvSge, BvUdiv, BvSdiv, BvSrem, BvUrem, BvLshr, BvAshr, BvAnd, BvOr, BvXor, BvNot, BvAdd, BvNeg, BvSub, BvMul, BvShl, BvUgt, BvSgt, BvUlt, BvSlt, SetEmpty, SetSng, SetCup, SetCap, SetDif, SetSub, SetMem, MapDefault, MapSelect, MapStore}
 use Rattle.task.specs.Ast.{Sort, Sorts, Binder, Expr, Exprs, Pred, DataCtor, DataDecl, FunBody, FunDef, KVarDecl}
-use Rattle.task.specs.Fault.{each, sortFault, sortsFault, binderFault, needsSort, thyFuncFault, isGiven, givenFault, exprFault, exprsFault, predFault, dataCtorFault, emptyFault, datatypeFault, bodyFault, functionFault, kvarFault}
+use Rattle.task.specs.Fault.{lower, each, sortFault, sortsFault, binderFault, needsSort, thyFuncFault, isGiven, givenFault, exprFault, exprsFault, predFault, dataCtorFault, emptyFault, datatypeFault, bodyFault, functionFault, kvarFault}
 use Rattle.task.specs.Task.{isCtor}
 use Rattle.task.specs.Returns.{every, isBvSize, isUnknown, write-sort-returns, write-sorts-return, write-binders-return, write-thy-func-returns, out-sort-returns, write-application-head-returns, write-expr-returns, write-exprs-return, write-pred-returns, isEmpty, write-datatype-decl-returns, write-const-decl-returns, write-args-return, write-fun-body-returns, write-fun-def-returns, write-kvar-decl-returns}
 use Rattle.task.specs.Laws.{SoundParts, Returning}
 use Rattle.task.proofs.Judging.{sound-parts}
 open SoundParts sound-parts using (none-left, none-right)
 
+-- of two pieces, if it returns for each that is without fault
+two-return : {f g : Fault} (a b : Bool) → (f ≡ Sound → T a) → (g ≡ Sound → T b) → lower f g ≡ Sound → T (a && b)
+two-return a b k l h = both a b (k (none-left _ _ h)) (l (none-right _ _ h))
+
 -- of each of a list
 pub every-returns : {A : Type 0} (fault : A → Fault) (returns : A → Bool) → ((a : A) → fault a ≡ Sound → T (returns a)) → (l : List A)
     → each fault l ≡ Sound → T (every returns l)
 every-returns fault returns f [] h = tt
 every-returns fault returns f (a ∷ l) h =
-    both (returns a) _ (f a (none-left _ _ h)) (every-returns fault returns f l (none-right _ _ h))
-
--- either of two
-or-else : (a b : Bool) → T b → T (a || b)
-or-else true b t = tt
-or-else false b t = t
+    two-return (returns a) _ (f a) (every-returns fault returns f l) h
 
 -- what holds is chosen
 held : (a : Bool) → T a → T (cond a a false)
@@ -121,15 +120,14 @@ module _ (ds : List DataDecl) where
     sort-returns (Sort.bvSize n) h = clash (cc)
     sort-returns (Sort.var i) h = tt
     sort-returns (Sort.func a b) h =
-        let k = none-right _ _ h in
-        both (write-sort-returns ds a) _ (sort-returns a (none-left _ _ k)) (sort-returns b (none-right _ _ k))
+        two-return (write-sort-returns ds a) _ (λ k. sort-returns a k) (λ k. sort-returns b k) (none-right _ _ h)
     sort-returns (Sort.abs n b) h = sort-returns b (none-right _ _ h)
-    sort-returns (Sort.app c bs) h = or-else (isUnknown ds c) _ (sorts-return bs (none-right _ _ (none-right _ _ h)))
+    sort-returns (Sort.app c bs) h = or-right (isUnknown ds c) _ (sorts-return bs (none-right _ _ (none-right _ _ h)))
 
     sorts-return : (bs : Sorts) → sortsFault bs ≡ Sound → T (write-sorts-return ds bs)
     sorts-return Sorts.none h = tt
     sorts-return (Sorts.more b bs) h =
-        both (write-sort-returns ds b) _ (sort-returns b (none-left _ _ h)) (sorts-return bs (none-right _ _ h))
+        two-return (write-sort-returns ds b) _ (λ k. sort-returns b k) (λ k. sorts-return bs k) h
 
   binder-returns : (b : Binder) → binderFault b ≡ Sound → T (write-sort-returns ds (b .sort))
   unfolding binderFault
@@ -183,33 +181,31 @@ module _ (ds : List DataDecl) where
         (head-returns f o (none-left _ _ k) (none-left _ _ h) (λ g. expr-returns f g)) (exprs-return es (none-right _ _ k))
     expr-returns (Expr.neg e) h = expr-returns e h
     expr-returns (Expr.binaryOp o a b) h =
-        both (write-expr-returns ds a) _ (expr-returns a (none-left _ _ h)) (expr-returns b (none-right _ _ h))
+        two-return (write-expr-returns ds a) _ (λ k. expr-returns a k) (λ k. expr-returns b k) h
     expr-returns (Expr.ifThenElse c a b) h =
-        let k = none-right _ _ h in
-        both (write-expr-returns ds c) _ (expr-returns c (none-left _ _ h))
-        (both (write-expr-returns ds a) _ (expr-returns a (none-left _ _ k)) (expr-returns b (none-right _ _ k)))
+        two-return (write-expr-returns ds c) _ (λ k. expr-returns c k)
+        (two-return (write-expr-returns ds a) _ (λ k. expr-returns a k) (λ k. expr-returns b k)) h
     expr-returns (Expr.and es) h = exprs-return es h
     expr-returns (Expr.or es) h = exprs-return es h
     expr-returns (Expr.not e) h = expr-returns e h
     expr-returns (Expr.imp a b) h =
-        both (write-expr-returns ds a) _ (expr-returns a (none-left _ _ h)) (expr-returns b (none-right _ _ h))
+        two-return (write-expr-returns ds a) _ (λ k. expr-returns a k) (λ k. expr-returns b k) h
     expr-returns (Expr.iff a b) h =
-        both (write-expr-returns ds a) _ (expr-returns a (none-left _ _ h)) (expr-returns b (none-right _ _ h))
+        two-return (write-expr-returns ds a) _ (λ k. expr-returns a k) (λ k. expr-returns b k) h
     expr-returns (Expr.atom r a b) h =
-        both (write-expr-returns ds a) _ (expr-returns a (none-left _ _ h)) (expr-returns b (none-right _ _ h))
+        two-return (write-expr-returns ds a) _ (λ k. expr-returns a k) (λ k. expr-returns b k) h
     expr-returns (Expr.letIn x a b) h =
-        let k = none-right _ _ h in
-        both (write-expr-returns ds a) _ (expr-returns a (none-left _ _ k)) (expr-returns b (none-right _ _ k))
+        two-return (write-expr-returns ds a) _ (λ k. expr-returns a k) (λ k. expr-returns b k) (none-right _ _ h)
     expr-returns (Expr.thyFunc f) h = thy-func-returns f h
     expr-returns (Expr.isCtor x e) h = expr-returns e (none-right _ _ h)
     expr-returns (Expr.quantifier q bs e) h =
-        both (write-binders-return ds bs) _ (binders-return bs (none-left _ _ h)) (expr-returns e (none-right _ _ h))
+        two-return (write-binders-return ds bs) _ (binders-return bs) (λ k. expr-returns e k) h
     expr-returns Expr.wkVar h = clash (cc)
 
     exprs-return : (es : Exprs) → exprsFault es ≡ Sound → T (write-exprs-return ds es)
     exprs-return Exprs.none h = tt
     exprs-return (Exprs.more e es) h =
-        both (write-expr-returns ds e) _ (expr-returns e (none-left _ _ h)) (exprs-return es (none-right _ _ h))
+        two-return (write-expr-returns ds e) _ (λ k. expr-returns e k) (λ k. exprs-return es k) h
 
   pred-returns : (p : Pred) → predFault p ≡ Sound → T (write-pred-returns ds p)
   unfolding predFault write-pred-returns
@@ -233,7 +229,7 @@ module _ (ds : List DataDecl) where
   args-return [] bs h = tt
   args-return (x ∷ xs) Sorts.none h = tt
   args-return (x ∷ xs) (Sorts.more b bs) h =
-      both (write-sort-returns ds b) _ (sort-returns b (none-left _ _ h)) (args-return xs bs (none-right _ _ h))
+      two-return (write-sort-returns ds b) _ (λ k. sort-returns b k) (args-return xs bs) h
 
   body-returns : (f : FunDef) (n : ℕ) (o : Option FunBody) → sortsFault (f .inputs) ≡ Sound → sortFault false (f .output) ≡ Sound
       → bodyFault n o ≡ Sound → T (write-fun-body-returns ds f o)
