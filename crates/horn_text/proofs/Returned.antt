@@ -1,7 +1,7 @@
 -- For a task without fault the source's writer returns: `script-returns`.
 use mathlib.Core.Path.{_≡_, refl}
-use mathlib.Core.Bool.{not}
-use mathlib.Core.List.{List, [], _∷_}
+use mathlib.Core.Bool.{false}
+use mathlib.Core.List.{List, [], _∷_, map}
 use mathlib.Core.Option.{none}
 use lib.Dec.{T}
 use Rattle.smtlib.specs.Lexicon.{bytes}
@@ -55,12 +55,21 @@ x = Expr.var (bytes "x")
 abbrev width-8 : Sort
 width-8 = Sort.bvSize 8
 
-abbrev clause : Sort → Expr → Expr → HornClause
-clause b g h = record { vars = record { name = bytes "x"; sort = b } ∷ []; guards = Pred.expr g ∷ []; head = Pred.expr h }
+abbrev binder-x : Sort → Binder
+binder-x b = record { name = bytes "x"; sort = b }
 
-pub asserts-panic : T (every (λ c. not (write-assert-returns [] c)) (clause width-8 x x ∷ clause Sort.int Expr.wkVar x ∷ clause Sort.int x Expr.wkVar ∷ []))
+-- a clause with two binders and two guards
+abbrev clause : Sort → Sort → Expr → Expr → Expr → HornClause
+clause a b g h head = record { vars = binder-x a ∷ binder-x b ∷ []; guards = Pred.expr g ∷ Pred.expr h ∷ []; head = Pred.expr head }
+
+abbrev panicking-clauses : List HornClause
+panicking-clauses =
+    clause width-8 Sort.int x x x ∷ clause Sort.int width-8 x x x ∷ clause Sort.int Sort.int Expr.wkVar x x ∷
+    clause Sort.int Sort.int x Expr.wkVar x ∷ clause Sort.int Sort.int x x Expr.wkVar ∷ []
+
+pub asserts-panic : map (write-assert-returns []) panicking-clauses ≡ map (λ c. false) panicking-clauses
 unfolding write-sort-returns write-expr-returns write-pred-returns write-assert-returns
-asserts-panic = tt
+asserts-panic = refl
 
 -- a task with these datatypes, constants, functions, KVars and constraint
 abbrev task-of : List DataDecl → List Binder → List FunDef → List KVarDecl → Constraint → Task
@@ -74,15 +83,18 @@ nothing = Constraint.conj Constraints.none
 abbrev weak-guard : Constraint → Constraint
 weak-guard c = Constraint.forAll (bytes "x") Sort.int (Pred.expr Expr.wkVar ∷ []) c
 
-pub scripts-panic : T (every (λ t. not (write-smt-horn-returns t)) (
+abbrev panicking-tasks : List Task
+panicking-tasks =
     task-of (record { name = bytes "D"; vars = 0; ctors = [] } ∷ []) [] [] [] nothing ∷
-    task-of [] (record { name = bytes "n"; sort = width-8 } ∷ []) [] [] nothing ∷
+    task-of [] (binder-x Sort.int ∷ binder-x width-8 ∷ []) [] [] nothing ∷
     task-of [] [] (record { name = bytes "f"; params = 0; inputs = Sorts.none; output = width-8; body = none } ∷ []) [] nothing ∷
     task-of [] [] [] (record { kvid = bytes "k"; sorts = Sorts.more width-8 Sorts.none } ∷ []) nothing ∷
     task-of [] [] [] [] (weak-guard (Constraint.pred (Pred.expr x))) ∷
-    []))
+    []
+
+pub scripts-panic : map write-smt-horn-returns panicking-tasks ≡ map (λ t. false) panicking-tasks
 unfolding flatten-constraint literallyTrue write-sort-returns write-expr-returns write-pred-returns write-datatype-decl-returns write-const-decl-returns write-fun-def-returns write-kvar-decl-returns write-assert-returns write-smt-horn-returns
-scripts-panic = tt
+scripts-panic = refl
 
 -- a guard over no head is not written
 pub no-head-returns : T (write-smt-horn-returns (task-of [] [] [] [] (weak-guard nothing)))

@@ -1,7 +1,7 @@
 -- Worked examples, computed from the definitions.
 use mathlib.Core.Path.{_≡_, refl}
-use mathlib.Core.Bool.{true, false, not}
-use mathlib.Core.List.{List, [], _∷_}
+use mathlib.Core.Bool.{Bool, true, false}
+use mathlib.Core.List.{List, [], _∷_, map}
 use mathlib.Core.Option.{Option, none, some}
 use Prim.Native.Nat.{ℕ}
 use lib.Dec.{T}
@@ -11,11 +11,11 @@ use Rattle.task.specs.declared.BinRel.the-variants.{Ge}
 use Rattle.task.specs.declared.Quantifier.the-variants.{Exists}
 use Rattle.task.specs.declared.ThyFunc.the-variants.{SetEmpty, MapDefault}
 use Rattle.task.specs.declared.Fault.the-variants.{Text, NoConstructors, BitVecWidth, Unqualified, WKVar, Arity, Shadowed, Sound}
-use Rattle.task.specs.Ast.{SortCtor, Sort, Sorts, Constant, Expr, Exprs, Pred, Constraint, Constraints, DataDecl, FunBody, FunDef, Task}
+use Rattle.task.specs.Ast.{SortCtor, Sort, Sorts, Binder, Constant, Expr, Exprs, Pred, Constraint, Constraints, DataDecl, FunBody, FunDef, Task}
 use Rattle.task.specs.Decode.{got, refuse, raw, items, sortForms, decSort, binRels, exprForms, decExpr, decPred, decConstraint}
 use Rattle.task.specs.Fault.{lower, nameFault, sortFault, sortsFault, binderFault, needsSort, thyFuncFault, exprFault, exprsFault, predFault, shadowFault, constraintFault, constraintsFault, emptyFault, datatypeFault, arityFault, bodyFault, kvarFault, taskFault}
 use Rattle.task.specs.Task.{bound, framed, decoded, judged, taskOf, literallyTrue, predHeads, headsOf, headsIn, declarations}
-use Rattle.task.specs.Returns.{every, write-sort-returns, write-thy-func-returns, write-application-head-returns, write-expr-returns, write-pred-returns, write-datatype-decl-returns, write-const-decl-returns, write-fun-def-returns, write-kvar-decl-returns}
+use Rattle.task.specs.Returns.{write-sort-returns, write-thy-func-returns, write-application-head-returns, write-expr-returns, write-pred-returns, write-datatype-decl-returns, write-const-decl-returns, write-fun-def-returns, write-kvar-decl-returns}
 
 -- 27 zero bytes are too short.
 pub zeros : List ℕ
@@ -151,6 +151,9 @@ exprs a b = Exprs.more a (Exprs.more b Exprs.none)
 abbrev sorts : Sort → Sort → Sorts
 sorts a b = Sorts.more a (Sorts.more b Sorts.none)
 
+abbrev binder-y : Sort → Binder
+binder-y b = record { name = bytes "y"; sort = b }
+
 -- the datatype L with the constructor c
 abbrev datatype-l : List DataDecl
 datatype-l = record { name = bytes "L"; vars = 0; ctors = record { name = bytes "c"; fields = [] } ∷ [] } ∷ []
@@ -178,30 +181,31 @@ panicking-exprs =
     Expr.ifThenElse x x Expr.wkVar ∷ Expr.and (exprs Expr.wkVar x) ∷ Expr.and (exprs x Expr.wkVar) ∷ Expr.or (exprs x Expr.wkVar) ∷
     Expr.imp Expr.wkVar x ∷ Expr.imp x Expr.wkVar ∷ Expr.iff Expr.wkVar x ∷ Expr.iff x Expr.wkVar ∷ Expr.atom Ge Expr.wkVar x ∷
     Expr.atom Ge x Expr.wkVar ∷ Expr.letIn (bytes "y") Expr.wkVar x ∷ Expr.letIn (bytes "y") x Expr.wkVar ∷ Expr.isCtor (bytes "c") Expr.wkVar ∷
-    Expr.quantifier Exists (record { name = bytes "y"; sort = width-8 } ∷ []) x ∷ Expr.quantifier Exists [] Expr.wkVar ∷ []
+    Expr.quantifier Exists (binder-y width-8 ∷ binder-y Sort.int ∷ []) x ∷ Expr.quantifier Exists (binder-y Sort.int ∷ binder-y width-8 ∷ []) x ∷
+    Expr.quantifier Exists [] Expr.wkVar ∷ []
 
 -- What is not written does not make it panic: arguments of a datatype that is not declared, and an output sort that the head has no use for.
 abbrev unwritten : List Expr
 unwritten =
-    Expr.quantifier Exists (record { name = bytes "y"; sort = Sort.app (SortCtor.named (bytes "M")) (sorts Sort.int width-8) } ∷ []) x ∷
+    Expr.quantifier Exists (binder-y (Sort.app (SortCtor.named (bytes "M")) (sorts Sort.int width-8)) ∷ []) x ∷
     applied x (some width-8) ∷ applied (Expr.not x) (some width-8) ∷ []
 
-pub sorts-panic : T (every (λ b. not (write-sort-returns datatype-l b)) panicking-sorts)
+pub sorts-panic : map (write-sort-returns datatype-l) panicking-sorts ≡ map (λ b. false) panicking-sorts
 unfolding write-sort-returns
-sorts-panic = tt
+sorts-panic = refl
 
-pub exprs-panic : T (every (λ e. not (write-expr-returns datatype-l e)) panicking-exprs)
+pub exprs-panic : map (write-expr-returns datatype-l) panicking-exprs ≡ map (λ e. false) panicking-exprs
 unfolding write-sort-returns write-thy-func-returns write-application-head-returns write-expr-returns
-exprs-panic = tt
+exprs-panic = refl
 
 -- also as heads
-pub heads-panic : T (every (λ e. not (write-expr-returns datatype-l (applied e none))) panicking-exprs)
+pub heads-panic : map (λ e. write-expr-returns datatype-l (applied e none)) panicking-exprs ≡ map (λ e. false) panicking-exprs
 unfolding write-sort-returns write-thy-func-returns write-application-head-returns write-expr-returns
-heads-panic = tt
+heads-panic = refl
 
-pub unwritten-returns : T (every (write-expr-returns datatype-l) unwritten)
+pub unwritten-returns : map (write-expr-returns datatype-l) unwritten ≡ map (λ e. true) unwritten
 unfolding write-sort-returns write-application-head-returns write-expr-returns
-unwritten-returns = tt
+unwritten-returns = refl
 
 -- a function from Int and another sort, with a body if one is given
 abbrev function-f : Sort → Sort → Option FunBody → FunDef
@@ -214,22 +218,35 @@ body-of xs e = some (record { args = xs; expr = e })
 abbrev two-names : List (List ℕ)
 two-names = bytes "x" ∷ bytes "y" ∷ []
 
+-- a datatype with two constructors, of which one has two fields
+abbrev datatype-d : Sort → Sort → Sort → DataDecl
+datatype-d a b c = record {
+  name = bytes "D";
+  vars = 0;
+  ctors = record { name = bytes "c"; fields = binder-y a ∷ binder-y b ∷ [] } ∷ record { name = bytes "d"; fields = binder-y c ∷ [] } ∷ [];
+}
+
 -- predicates and declarations
-pub others-panic : T (every not (
+abbrev panicking-others : List Bool
+panicking-others =
     write-pred-returns [] (Pred.kvar (bytes "k") (exprs x Expr.wkVar)) ∷
     write-pred-returns [] (Pred.expr Expr.wkVar) ∷
     write-datatype-decl-returns [] (record { name = bytes "D"; vars = 0; ctors = [] }) ∷
-    write-datatype-decl-returns [] (record { name = bytes "D"; vars = 0; ctors = record { name = bytes "c"; fields = record { name = bytes "f"; sort = width-8 } ∷ [] } ∷ [] }) ∷
-    write-const-decl-returns [] (record { name = bytes "n"; sort = width-8 }) ∷
+    write-datatype-decl-returns [] (datatype-d width-8 Sort.int Sort.int) ∷
+    write-datatype-decl-returns [] (datatype-d Sort.int width-8 Sort.int) ∷
+    write-datatype-decl-returns [] (datatype-d Sort.int Sort.int width-8) ∷
+    write-const-decl-returns [] (binder-y width-8) ∷
     write-fun-def-returns [] (function-f width-8 Sort.int none) ∷
     write-fun-def-returns [] (function-f Sort.int width-8 none) ∷
     write-fun-def-returns [] (function-f width-8 Sort.int (body-of two-names x)) ∷
     write-fun-def-returns [] (function-f Sort.int width-8 (body-of two-names x)) ∷
     write-fun-def-returns [] (function-f Sort.int Sort.int (body-of two-names Expr.wkVar)) ∷
     write-kvar-decl-returns [] (record { kvid = bytes "k"; sorts = sorts Sort.int width-8 }) ∷
-    []))
+    []
+
+pub others-panic : panicking-others ≡ map (λ b. false) panicking-others
 unfolding write-sort-returns write-expr-returns write-pred-returns write-datatype-decl-returns write-const-decl-returns write-fun-def-returns write-kvar-decl-returns
-others-panic = tt
+others-panic = refl
 
 -- an input without an argument name is not written
 pub dropped-returns : T (write-fun-def-returns [] (function-f width-8 Sort.int (body-of (bytes "x" ∷ []) x)))
