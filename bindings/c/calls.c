@@ -82,6 +82,25 @@ static void refused(void) {
     expect(buf[0] == FILLED && length == 5, "a refusal changes nothing");
 }
 
+/* the bytes of a constraint, a file around them, and the number that every call answers to it */
+static void refused_with(uint8_t number, const uint8_t *constraint, size_t n) {
+    uint8_t file[64] = {0}, buf[1] = {FILLED};
+    size_t sizes[4], length;
+    memcpy(file, constraint, n);
+    memcpy(file + n + 24, "HORN", 4);
+    expect(jiggerreef_survey(file, n + 28, sizes) == number, "survey refuses a form without a text with its number");
+    expect(jiggerreef_part(file, n + 28, 0, buf, 1, &length) == number, "so does part");
+    expect(jiggerreef_script(file, n + 28, buf, 1, &length) == number && buf[0] == FILLED, "so does script, and changes nothing");
+}
+
+/* ForAll x over a BitVec of Int; SetEmpty; a WKVar */
+static void forms(void) {
+    static const uint8_t width[] = {2, 1, 'x', 4, 0, 0, 0, 1, 0, 0}, unqualified[] = {0, 1, 18, 38}, weak[] = {0, 1, 6};
+    refused_with(12, width, sizeof width);
+    refused_with(13, unqualified, sizeof unqualified);
+    refused_with(14, weak, sizeof weak);
+}
+
 int main(int argc, char **argv) {
     static uint8_t file[MOST], script[MOST];
     if (argc != 3) {
@@ -92,6 +111,7 @@ int main(int argc, char **argv) {
     joined(file, n, script, m);
     written(file, n, script, m);
     refused();
+    forms();
     printf("%d passed, %d failed\n", passed, failed);
     return failed != 0;
 }

@@ -8,11 +8,19 @@
  * The archive is for x86-64 Linux. The bytes, the index and the lengths are free: there is nothing to test before a call. An uninitialised buffer is fine.
  *
  * A call answers 0 and stores its values, or it answers the number of its refusal, stores nothing and changes no byte of `buf`.
- *   1       no task file: wrong length, mark or offsets           5  a form that has no text
- *   2       a piece that leaves its section, an unknown code ..   6  a body with another number of arguments than inputs
- *   3       a piece below the 256th level                         7  a ForAll named like one around it
+ *   1       no task file: wrong length, mark or offsets
+ *   2       a piece that leaves its section, an unknown code, a wrong flag, an empty name, bytes left
+ *   3       a piece below the 256th level
  *   4       a name, comment or string that could not be read back
- *   8       no such part                                          9  the buffer is too short
+ *   5       a datatype without constructors
+ *   12      a BitVec over another sort than BvSize, or a BvSize elsewhere
+ *   13      SetEmpty or MapDefault anywhere but as the head of an App with an output sort
+ *   14      a WKVar
+ *   6       a body with another number of arguments than inputs
+ *   7       a ForAll named like one around it
+ *   8       no such part
+ *   9       the buffer is too short
+ * They stand here in the order of judging, where 2 and 3 share a place: the first met. Up to 7 they are survey's, and every call's.
  * docs/REFUSALS.md has each of them at length. The calls keep nothing and share nothing: they may run at the same time in several threads. */
 #ifndef JIGGERREEF_H
 #define JIGGERREEF_H
@@ -24,13 +32,13 @@
 extern "C" {
 #endif
 
-/* Stores the numbers of parts and of assertions, the length of the script and that of its longest part; or answers 1 to 7. */
+/* Stores the numbers of parts and of assertions, the length of the script and that of its longest part; or answers one of survey's refusals. */
 uint8_t jiggerreef_survey(const uint8_t *file, size_t file_len, size_t sizes[4]);
 
-/* Writes part `index` to the buffer's start and stores its length; or answers 1 to 7, then 8, then 9. Bytes behind the part are unchanged. */
+/* Writes part `index` to the buffer's start and stores its length; or answers survey's refusal, then 8, then 9. Bytes behind the part are unchanged. */
 uint8_t jiggerreef_part(const uint8_t *file, size_t file_len, size_t index, uint8_t *buf, size_t buf_len, size_t *length);
 
-/* Writes the script to the buffer's start and stores its length; or answers 1 to 7, then 9. Bytes behind the script are unchanged. */
+/* Writes the script to the buffer's start and stores its length; or answers survey's refusal, then 9. Bytes behind the script are unchanged. */
 uint8_t jiggerreef_script(const uint8_t *file, size_t file_len, uint8_t *buf, size_t buf_len, size_t *length);
 
 #ifdef __cplusplus

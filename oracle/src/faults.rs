@@ -2,14 +2,19 @@
 use crate::chance::Chance;
 use crate::draft::{named, symbol, text, Draft, Place, Plan, Spot};
 use crate::task::{
-    CONSTRAINT_CODES, DEEPEST, EXPR_CODES, LONGEST_FILE, MAP_DEFAULT, PRED_CODES, RESERVED, SET_EMPTY, SORT_CODES, TRAILER,
+    CONSTRAINT_CODES, DEEPEST, EXPR_CODES, FORMS, LONGEST_FILE, MAP_DEFAULT, NOTED, PRED_CODES, RESERVED, SET_EMPTY, SORT_CODES, TRAILER,
 };
 use crate::words::{joined, offsets, sealed};
 use std::ops::Range;
 use Make::{By, With};
 
-/// A file and the answer it was made for, if there is one: 0 for an accepted file, else the refusal.
-pub struct Case { pub file: Vec<u8>, pub due: Option<u8> }
+/// A file; the answer it was made for, if there is one: 0 for an accepted file, else the refusal; and the refusals of the two faults that were put
+/// into it, the first in the file in front.
+pub struct Case { pub file: Vec<u8>, pub due: Option<u8>, pub pair: Option<[u8; 2]> }
+
+impl Case {
+    pub fn new(file: Vec<u8>, due: Option<u8>) -> Self { Case { file, due, pair: None } }
+}
 
 /// A way to make a file: by itself, or a valid one with one fault that gets this refusal.
 pub enum Make { By(fn(&mut Chance) -> Case), With(u8, Fault) }
@@ -21,7 +26,7 @@ pub struct Splice { section: usize, span: Range<usize>, bytes: Vec<u8> }
 /// A kind of files: its name, its share among all, and how one is made.
 pub type Kind = (&'static str, usize, Make);
 
-pub const KINDS: [Kind; 39] = [
+pub const KINDS: [Kind; 41] = [
     ("tree", 200, By(|chance| valid(chance, SMALL))),
     ("middle", 40, By(|chance| valid(chance, Plan { pieces: 300, items: 5, ..SMALL }))),
     ("large", 2, By(|chance| valid(chance, Plan { pieces: 1500, items: 20, ..SMALL }))),
@@ -47,14 +52,16 @@ pub const KINDS: [Kind; 39] = [
     ("4-name", 40, With(4, wrong_name)),
     ("4-comment", 10, With(4, wrong_comment)),
     ("4-string", 10, With(4, wrong_string)),
-    ("5-datatype", 8, With(5, no_ctors)),
-    ("5-bitvec", 8, With(5, bitvec_of_sort)),
-    ("5-width", 12, With(5, width_elsewhere)),
-    ("5-wkvar", 12, With(5, weak_kvar)),
-    ("5-function", 12, With(5, bare_function)),
+    ("5-datatype", 12, With(5, no_ctors)),
+    ("12-bitvec", 10, With(12, bitvec_of_sort)),
+    ("12-width", 12, With(12, width_elsewhere)),
+    ("13-function", 12, With(13, bare_function)),
+    ("13-app", 8, With(13, function_without_sort)),
+    ("14-wkvar", 12, With(14, weak_kvar)),
     ("6-arguments", 20, With(6, wrong_arguments)),
     ("7-binder", 20, With(7, repeated_binder)),
-    ("two-faults", 60, By(two_faults)),
+    ("two-faults", 60, By(|chance| two_faults(chance, |_| true))),
+    ("form-and-other", 60, By(|chance| two_faults(chance, |[a, b]| a != b && FORMS.contains(&a) && NOTED.contains(&b)))),
     ("border", 20, By(moved_border)),
     ("changed", 160, By(|chance| damaged(chance, change))),
     ("inserted", 60, By(|chance| damaged(chance, insert))),
@@ -70,7 +77,7 @@ impl Make {
             With(refusal, fault) => {
                 let (mut draft, splice) = drafted(chance, fault);
                 splice.apply(&mut draft);
-                Case { file: draft.file(), due: Some(*refusal) }
+                Case::new(draft.file(), Some(*refusal))
             }
         }
     }
@@ -86,14 +93,14 @@ pub fn any_kind(chance: &mut Chance) -> &'static Kind {
 
 const SMALL: Plan = Plan { pieces: 60, items: 2, target: 0, chain: false };
 
-fn valid(chance: &mut Chance, plan: Plan) -> Case { Case { file: Draft::new(chance, plan).file(), due: Some(0) } }
+fn valid(chance: &mut Chance, plan: Plan) -> Case { Case::new(Draft::new(chance, plan).file(), Some(0)) }
 
 /// As long as can be, or a byte longer: the rest is a comment.
 fn sized(chance: &mut Chance) -> Case {
     let (mut draft, over) = (Draft::new(chance, SMALL), chance.below(2));
     let rest = LONGEST_FILE + over - draft.file().len() - 2;
     draft.sections[0].extend((rest as u16).to_le_bytes().into_iter().chain(vec![b'-'; rest]));
-    Case { file: draft.file(), due: Some(over as u8) }
+    Case::new(draft.file(), Some(over as u8))
 }
 
 // ---- One fault
@@ -122,14 +129,14 @@ fn place<'d>(draft: &'d Draft, chance: &mut Chance, fits: impl Fn(&Spot) -> bool
 fn wrong_length(chance: &mut Chance) -> Case {
     let file = Draft::new(chance, SMALL).file();
     let few = chance.below(TRAILER);
-    Case { file: if chance.below(2) == 0 { file[..few].to_vec() } else { file[file.len() - few..].to_vec() }, due: Some(1) }
+    Case::new(if chance.below(2) == 0 { file[..few].to_vec() } else { file[file.len() - few..].to_vec() }, Some(1))
 }
 
 fn wrong_mark(chance: &mut Chance) -> Case {
     let mut file = Draft::new(chance, SMALL).file();
     let at = file.len() - 1 - chance.below(4);
     file[at] ^= 1 << chance.below(8);
-    Case { file, due: Some(1) }
+    Case::new(file, Some(1))
 }
 
 /// The first offset not 0, one below the one before or above the one behind, the last above the trailer's place.
@@ -144,7 +151,7 @@ fn wrong_offset(chance: &mut Chance) -> Case {
         1 => offsets[i] + (1 << (16 + chance.below(16))),
         _ => most + 1,
     };
-    Case { file: sealed(&body, offsets), due: Some(1) }
+    Case::new(sealed(&body, offsets), Some(1))
 }
 
 /// A byte that is no code below `bound`.
@@ -196,7 +203,7 @@ fn no_constraint(draft: &Draft, _: &mut Chance) -> Option<Splice> {
 
 fn too_deep(chance: &mut Chance) -> Case {
     let chain = chance.below(2) == 0;
-    Case { file: Draft::new(chance, Plan { target: DEEPEST + 1, chain, ..SMALL }).file(), due: Some(3) }
+    Case::new(Draft::new(chance, Plan { target: DEEPEST + 1, chain, ..SMALL }).file(), Some(3))
 }
 
 /// A form around itself from a place of this kind on, `last` behind it, and something or nothing due at level 257.
@@ -266,6 +273,12 @@ fn bare_function(draft: &Draft, chance: &mut Chance) -> Option<Splice> {
     instead(draft, chance, &[18, function], |spot| *spot == Spot::Piece('E'))
 }
 
+/// One of them as the head of an App without an output sort.
+fn function_without_sort(draft: &Draft, chance: &mut Chance) -> Option<Splice> {
+    let function = [SET_EMPTY, MAP_DEFAULT][chance.below(2)] as u8;
+    instead(draft, chance, &[17, 0, 18, function, 0, 0], |spot| *spot == Spot::Piece('E'))
+}
+
 /// More argument names or fewer.
 fn wrong_arguments(draft: &Draft, chance: &mut Chance) -> Option<Splice> {
     let place = place(draft, chance, |spot| *spot == Spot::Args)?;
@@ -281,21 +294,22 @@ fn repeated_binder(draft: &Draft, chance: &mut Chance) -> Option<Splice> {
     Some(Splice::at(place, named(outer.as_bytes())))
 }
 
-/// Two faults that do not touch: the first of those with 2 or 3 is met, else the lower is answered.
-fn two_faults(chance: &mut Chance) -> Case {
+/// Two faults that do not touch, with refusals to choose from: the first of those with 2 or 3 is met, else the first judged is answered.
+fn two_faults(chance: &mut Chance, chosen: fn([u8; 2]) -> bool) -> Case {
     let fault = |kind: &Kind| if let With(refusal, fault) = kind.2 { Some((refusal, fault)) } else { None };
     let faults: Vec<(u8, Fault)> = KINDS.iter().filter_map(fault).collect();
     let (mut draft, mut two) = drafted(chance, |draft, chance| {
         let [(first, one), (second, other)] = [0, 1].map(|_| faults[chance.below(faults.len())]);
-        let [a, b] = [one(draft, chance)?, other(draft, chance)?];
+        let [a, b] = if chosen([first, second]) { [one(draft, chance)?, other(draft, chance)?] } else { return None };
         let apart = a.section != b.section || a.span.end <= b.span.start || b.span.end <= a.span.start;
         apart.then_some([(first, a), (second, b)])
     });
     two.sort_by_key(|(_, splice)| splice.start());
     let numbers = two.each_ref().map(|(refusal, _)| *refusal);
     two.into_iter().rev().for_each(|(_, splice)| splice.apply(&mut draft));
-    let met = numbers.iter().find(|refusal| **refusal <= 3);
-    Case { file: draft.file(), due: Some(*met.unwrap_or(numbers.iter().min().expect("two"))) }
+    let met = numbers.iter().find(|refusal| !NOTED.contains(refusal));
+    let judged = NOTED.iter().find(|refusal| numbers.contains(refusal));
+    Case { file: draft.file(), due: met.or(judged).copied(), pair: Some(numbers) }
 }
 
 // ---- Damage, which may get any answer
@@ -305,7 +319,7 @@ fn moved_border(chance: &mut Chance) -> Case {
     let draft = Draft::new(chance, SMALL);
     let (mut offsets, i) = (offsets(&draft.sections), 1 + chance.below(5));
     offsets[i] = (offsets[i] + 3 + [1, 1, 2, 3][chance.below(4)]).saturating_sub([3, 4, 5, 6, 7, 7][chance.below(6)]);
-    Case { file: sealed(&draft.sections.concat(), offsets), due: None }
+    Case::new(sealed(&draft.sections.concat(), offsets), None)
 }
 
 /// A valid file with one to three edits in its sections; the offsets mostly move along, and now and then a byte of the trailer is changed.
@@ -321,7 +335,7 @@ fn damaged(chance: &mut Chance, edit: fn(&mut Chance, &mut Vec<u8>)) -> Case {
         let at = file.len() - 1 - chance.below(TRAILER);
         file[at] ^= 1 << chance.below(8);
     }
-    Case { file, due: None }
+    Case::new(file, None)
 }
 
 /// A valid file cut off, with the trailer put behind the cut or not.
@@ -329,7 +343,7 @@ fn cut_off(chance: &mut Chance) -> Case {
     let mut file = Draft::new(chance, SMALL).file();
     let cut = chance.below(file.len() - TRAILER);
     if chance.below(2) == 0 { file.truncate(cut) } else { drop(file.drain(cut..file.len() - TRAILER)) }
-    Case { file, due: None }
+    Case::new(file, None)
 }
 
 fn likely(chance: &mut Chance, byte: u8) -> u8 {

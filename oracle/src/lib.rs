@@ -46,6 +46,6 @@ mod tests {
     #[test]
     fn a_file_shrinks_to_what_shows_its_fault() {
         let file = packed("c: \"long k: 'a 0 'b 1 v: 'k #0 h: 1 #3 0 K 0 1 6 0 T");
-        assert_eq!(smallest(&file, |file| checked(file).is_err_and(|refusal| refusal == 5)), packed("h: 1 #3 0 K 0 1 6 0 T"));
+        assert_eq!(smallest(&file, |file| checked(file).is_err_and(|refusal| refusal == 14)), packed("h: 1 #3 0 K 0 1 6 0 T"));
     }
 }

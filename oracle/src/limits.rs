@@ -67,10 +67,10 @@ const COUNTED: [(&str, &str); 13] = [
 /// What the source cannot write, arguments other than inputs and repeated binders, in places that are written and in others; and one file
 /// that only looks so.
 const FAULTY: [(&str, u8, &str); 20] = [
-    ("no-constructors", 5, "d: 'D #0 #0"), ("bitvec-of-sort", 5, "k: 'c 4 0"), ("bitvec-of-bitvec", 5, "k: 'c 4 4 5 *4"),
-    ("width", 5, "k: 'c 5 8 *3"), ("width-of-undeclared", 5, "k: 'c 11 'U #1 5 *4"), ("weak-kvar", 5, "h: 0 1 6"),
-    ("weak-kvar-of-true-head", 5, "h: 2 'x 0 #1 1 6 0 T"), ("emptyset", 5, "h: 0 1 18 38"), ("const", 5, "h: 0 1 18 45"),
-    ("emptyset-without-sort", 5, "h: 0 1 17 0 18 38 #0"), ("const-as-argument", 5, "h: 0 1 17 1 0 18 45 #1 18 45"),
+    ("no-constructors", 5, "d: 'D #0 #0"), ("bitvec-of-sort", 12, "k: 'c 4 0"), ("bitvec-of-bitvec", 12, "k: 'c 4 4 5 *4"),
+    ("width", 12, "k: 'c 5 8 *3"), ("width-of-undeclared", 12, "k: 'c 11 'U #1 5 *4"), ("weak-kvar", 14, "h: 0 1 6"),
+    ("weak-kvar-of-true-head", 14, "h: 2 'x 0 #1 1 6 0 T"), ("emptyset", 13, "h: 0 1 18 38"), ("const", 13, "h: 0 1 18 45"),
+    ("emptyset-without-sort", 13, "h: 0 1 17 0 18 38 #0"), ("const-as-argument", 13, "h: 0 1 17 1 0 18 45 #1 18 45"),
     ("more-arguments", 6, "f: 'f #0 #1 0 0 1 #2 'x 'y E"), ("fewer-arguments", 6, "f: 'f #0 #1 0 0 1 #0 E"),
     ("no-inputs", 6, "f: 'f #0 #0 0 1 #1 'x E"), ("256-inputs", 6, "f: 'f #0 #256 *256 0 1 #0 E"), ("repeated", 7, "h: X X 0 K"),
     ("repeated-around-true", 7, "h: X Y X 0 T"), ("repeated-around-nothing", 7, "h: X 1 #2 0 K Y 1 #1 Y C"),
@@ -92,7 +92,7 @@ fn padded(length: usize, rest: &str) -> String {
 struct Limits(Vec<(String, Case)>);
 
 impl Limits {
-    fn file(&mut self, name: &str, due: Option<u8>, file: Vec<u8>) { self.0.push((name.to_string(), Case { file, due })) }
+    fn file(&mut self, name: &str, due: Option<u8>, file: Vec<u8>) { self.0.push((name.to_string(), Case::new(file, due))) }
     fn words(&mut self, name: &str, due: u8, words: &str) { self.file(name, Some(due), packed(words)) }
 
     fn table(&mut self) {

@@ -1,4 +1,4 @@
-//! What a task file holds: its tree, and how a file is read into one or refused with one of the numbers 1 to 7.
+//! What a task file holds: its tree, and how a file is read into one or refused with a number.
 
 pub type Answer<T> = Result<T, u8>;
 pub type Binder<'a> = (&'a str, Sort<'a>);
@@ -62,7 +62,19 @@ impl Pred<'_> {
     pub fn is_trivially_true(&self) -> bool { matches!(self, Pred::Expr(Expr::Boolean(true))) }
 }
 
-// ---- Reading. Refusals 1, 2 and 3 end it. What gets one of 4 to 7 is noted and reading goes on.
+// ---- Reading. Refusals 1, 2 and 3 end it. What gets another is noted and reading goes on.
+
+/// The refusals of a file in the order of judging; of 2 and 3 the first met counts.
+pub const REFUSALS: [u8; 10] = [1, 2, 3, 4, NO_CTORS, WIDTH, UNQUALIFIED, WEAK, 6, 7];
+/// Those that are noted.
+pub const NOTED: &[u8] = REFUSALS.split_at(3).1;
+/// The forms that the source cannot write: a datatype without constructors, a BitVec over another sort than BvSize or a BvSize elsewhere,
+/// SetEmpty or MapDefault without an output sort, a WKVar.
+pub const FORMS: [u8; 4] = [NO_CTORS, WIDTH, UNQUALIFIED, WEAK];
+const NO_CTORS: u8 = 5;
+const WIDTH: u8 = 12;
+const UNQUALIFIED: u8 = 13;
+const WEAK: u8 = 14;
 
 pub const TRAILER: usize = 28;
 pub const LONGEST_FILE: usize = 60_000;
@@ -105,14 +117,14 @@ fn characters(bytes: &[u8]) -> &str { std::str::from_utf8(bytes).unwrap_or("") }
 
 /// Reads on from `at`; `end` is where the section ends. `faults` has a bit for each refusal that was noted, `around` the names of the
 /// ForAlls around.
-struct Reader<'a> { bytes: &'a [u8], at: usize, end: usize, faults: u8, around: Vec<&'a str> }
+struct Reader<'a> { bytes: &'a [u8], at: usize, end: usize, faults: u32, around: Vec<&'a str> }
 
 impl<'a> Reader<'a> {
-    fn note(&mut self, holds: bool, refusal: u8) { self.faults |= (holds as u8) << refusal }
+    fn note(&mut self, holds: bool, refusal: u8) { self.faults |= (holds as u32) << refusal }
 
-    /// A piece that the source cannot write.
-    fn unwritten<T>(&mut self, piece: T) -> T {
-        self.note(true, 5);
+    /// A piece that gets this refusal.
+    fn noted<T>(&mut self, refusal: u8, piece: T) -> T {
+        self.note(true, refusal);
         piece
     }
 
@@ -179,10 +191,10 @@ impl<'a> Reader<'a> {
                 // A width is right here and nowhere else
                 let before = self.faults;
                 let size = self.sort(below)?;
-                self.faults = if let Sort::BvSize(_) = size { before } else { self.faults | 1 << 5 };
+                self.faults = if let Sort::BvSize(_) = size { before } else { self.faults | 1 << WIDTH };
                 Sort::BitVec(Box::new(size))
             }
-            5 => self.u32().map(|size| self.unwritten(Sort::BvSize(size)))?,
+            5 => self.u32().map(|size| self.noted(WIDTH, Sort::BvSize(size)))?,
             6 => Sort::Var(self.u16()?),
             7 => Sort::Func(Box::new([self.sort(below)?, self.sort(below)?])),
             8 => Sort::Abs(self.u16()?, Box::new(self.sort(below)?)),
@@ -201,7 +213,7 @@ impl<'a> Reader<'a> {
             3 => Expr::String(self.text(Some(b'"'))?),
             4 => Expr::BitVec(self.u128()?, self.u32()?),
             5 => Expr::Var(self.name()?),
-            6 => self.unwritten(Expr::WKVar),
+            6 => self.noted(WEAK, Expr::WKVar),
             7 => Expr::Neg(self.one(below)?),
             8 => Expr::Not(self.one(below)?),
             9 => Expr::BinaryOp(self.code(OPERATIONS.len())?, self.two(below)?),
@@ -230,7 +242,7 @@ impl<'a> Reader<'a> {
 
     fn thy_func(&mut self) -> Answer<Expr<'a>> {
         let function = self.code(THEORY.len())?;
-        self.note(matches!(function, SET_EMPTY | MAP_DEFAULT), 5);
+        self.note(matches!(function, SET_EMPTY | MAP_DEFAULT), UNQUALIFIED);
         let [width] = if let ZERO_EXTEND | SIGN_EXTEND = function { self.array()? } else { [0] };
         Ok(Expr::ThyFunc(function, width))
     }
@@ -262,7 +274,7 @@ impl<'a> Reader<'a> {
     fn datatype(&mut self) -> Answer<Datatype<'a>> {
         let (name, vars) = (self.name()?, self.u16()?);
         let ctors = self.counted(|r| Ok(Ctor { name: r.name()?, fields: r.counted(|r| r.binder(1))? }))?;
-        self.note(ctors.is_empty(), 5);
+        self.note(ctors.is_empty(), NO_CTORS);
         Ok(Datatype { name, vars, ctors })
     }
 
@@ -286,17 +298,17 @@ impl<'a> Reader<'a> {
 }
 
 /// The task with the bits of what was noted, or the first met of refusals 1 to 3.
-fn read(file: &[u8]) -> Answer<(Task<'_>, u8)> {
+fn read(file: &[u8]) -> Answer<(Task<'_>, u32)> {
     let offsets = trailer(file)?;
     let mut reader = Reader { bytes: &file[..file.len() - TRAILER], at: 0, end: 0, faults: 0, around: Vec::new() };
     Ok((reader.task(&offsets)?, reader.faults))
 }
 
-/// The task, or the refusal: the first met of 1 to 3, else the lowest noted.
+/// The task, or the refusal: the first met of 1 to 3, else the first judged of what was noted.
 pub fn accepted(file: &[u8]) -> Answer<Task<'_>> {
     let (task, faults) = read(file)?;
-    if faults == 0 { Ok(task) } else { Err(faults.trailing_zeros() as u8) }
+    NOTED.iter().find(|refusal| faults >> **refusal & 1 == 1).map_or(Ok(task), |refusal| Err(*refusal))
 }
 
-/// The task, refused with 4 to 7 or not.
+/// The task, whatever was noted of it.
 pub fn decoded(file: &[u8]) -> Answer<Task<'_>> { Ok(read(file)?.0) }

@@ -19,7 +19,7 @@ pub struct Sizes {
     pub longest: usize,
 }
 
-/// The number of a refusal, from 1 to 9.
+/// The number of a refusal: 1 to 9 or 12 to 14. docs/REFUSALS.md says what each means.
 #[derive(Debug, Clone, Copy, PartialEq, Eq)]
 pub struct Refusal(u8);
 
@@ -51,7 +51,7 @@ fn answer<T>(number: u8, stored: T) -> Result<T, Refusal> {
     if number == 0 { Ok(stored) } else { Err(Refusal(number)) }
 }
 
-/// The numbers of the task's script, or a refusal from 1 to 7.
+/// The numbers of the task's script, or one of survey's refusals: 1 to 7 or 12 to 14.
 pub fn survey(file: &[u8]) -> Result<Sizes, Refusal> {
     let mut sizes = [0; 4];
     // SAFETY: the pointers are those of a slice and of an array, which share no byte.
@@ -60,7 +60,7 @@ pub fn survey(file: &[u8]) -> Result<Sizes, Refusal> {
     answer(number, Sizes { parts, assertions, bytes, longest })
 }
 
-/// Writes a part of the task's script to the buffer's start and gives its length; or a refusal: 1 to 7, then 8 if there is no such part, then 9
+/// Writes a part of the task's script to the buffer's start and gives its length; or a refusal: survey's, then 8 if there is no such part, then 9
 /// if it is longer than the buffer.
 pub fn part(file: &[u8], index: usize, buf: &mut [u8]) -> Result<usize, Refusal> {
     let mut length = 0;
@@ -69,7 +69,7 @@ pub fn part(file: &[u8], index: usize, buf: &mut [u8]) -> Result<usize, Refusal>
     answer(number, length)
 }
 
-/// Writes the task's script to the buffer's start and gives its length; or a refusal: 1 to 7, then 9 if it is longer than the buffer.
+/// Writes the task's script to the buffer's start and gives its length; or a refusal: survey's, then 9 if it is longer than the buffer.
 pub fn script(file: &[u8], buf: &mut [u8]) -> Result<usize, Refusal> {
     let mut length = 0;
     // SAFETY: as in `part`.

@@ -48,15 +48,35 @@ fn no_task_is_refused_by_every_call_alike() {
     }
 }
 
+/// A file with one item in a section (0 comments to 4 KVars) and this constraint.
+fn file_with(section: usize, item: &[u8], constraint: &[u8]) -> Vec<u8> {
+    let offsets = (0..6).flat_map(|i| if i > section { item.len() as u32 } else { 0 }.to_le_bytes());
+    item.iter().chain(constraint).copied().chain(offsets).chain(*b"HORN").collect()
+}
+
+const NOTHING: &[u8] = &[1, 0, 0];
+
+/// A datatype without constructors; a BitVec of Int, and a BvSize elsewhere; SetEmpty, and MapDefault under an App without a sort; a WKVar.
+#[test]
+fn each_form_without_a_text_has_its_number() {
+    for (refusal, file) in [
+        (5, file_with(1, &[1, b'D', 0, 0, 0, 0], NOTHING)),
+        (12, file_with(2, &[1, b'c', 4, 0], NOTHING)),
+        (12, file_with(2, &[1, b'c', 5, 8, 0, 0, 0], NOTHING)),
+        (13, file_with(0, &[], &[0, 1, 18, 38])),
+        (13, file_with(0, &[], &[0, 1, 17, 0, 18, 45, 0, 0])),
+        (14, file_with(0, &[], &[0, 1, 6])),
+        (12, file_with(2, &[1, b'c', 4, 0], &[0, 1, 6])),
+    ] {
+        let mut buf = [FILLED; 512];
+        assert_eq!([number(survey(&file)), number(part(&file, 0, &mut buf)), number(script(&file, &mut buf))], [Some(refusal); 3]);
+        assert!(buf.iter().all(|byte| *byte == FILLED));
+    }
+}
+
 #[test]
 fn a_line_break_in_a_comment_is_refused() {
-    let comment = b"\n(check-sat)";
-    let mut file = vec![comment.len() as u8, 0];
-    file.extend(comment);
-    let at = file.len() as u32;
-    file.extend([1, 0, 0]);
-    [0, at, at, at, at, at].iter().for_each(|offset| file.extend(offset.to_le_bytes()));
-    file.extend(b"HORN");
+    let mut file = file_with(0, b"\x0c\0\n(check-sat)", NOTHING);
     assert_eq!(number(script(&file, &mut [0; 512])), Some(4));
     file[2] = b' ';
     assert_eq!(survey(&file).map(|sizes| sizes.parts), Ok(3));

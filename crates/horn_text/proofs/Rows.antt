@@ -11,8 +11,8 @@ use Rattle.smtlib.specs.Compose.{decimal}
 use Rattle.smtlib.proofs.Bools.{and-left, and-right}
 use Rattle.task.specs.declared.Fault.{Fault}
 use Rattle.task.specs.declared.Fault.the-variants.{Text, NoConstructors, BitVecWidth, Unqualified, WKVar, Arity, Shadowed, Sound}
-use Rattle.task.specs.Decode.{raw, items, sortForms, decSort, binRels, exprForms, decExpr, decPred, decConstraint}
-use Rattle.task.specs.Fault.{lower, nameFault, textFault, sortFault, binderFault, exprFault, predFault, shadowFault, constraintFault, constraintsFault, dataCtorFault, emptyFault, datatypeFault, arityFault, bodyFault, functionFault, kvarFault, taskFault}
+use Rattle.task.specs.Decode.{raw, items, sortForms, decSort, binRels, thyFuncs, exprForms, decExpr, decPred, decConstraint}
+use Rattle.task.specs.Fault.{lower, nameFault, textFault, sortFault, sortsFault, binderFault, needsSort, thyFuncFault, exprFault, exprsFault, predFault, shadowFault, constraintFault, constraintsFault, dataCtorFault, emptyFault, datatypeFault, arityFault, bodyFault, functionFault, kvarFault, taskFault}
 use Rattle.task.specs.Task.{bound, framed, decoded, judged, taskOf, literallyTrue}
 use Rattle.task.specs.Returns.{every}
 use Rattle.smt_text.specs.Text.{write-name, write-sort, write-binder, write-expr, write-pred, write-ctor, write-datatype-decl, write-const-decl, write-kvar-decl}
@@ -80,9 +80,11 @@ in-order : (f g : Fault) → placeOf (lower f g) ≡ min (placeOf f) (placeOf g)
 in-order f g = eqb→eq _ _ (each-holds (inOrder f) (each-holds (λ h. every (inOrder h) faults) all-in-order f) g)
 
 pub numbers : Numbers
-unfolding surveyAnswer partAnswer partBuffer scriptAnswer scriptBuffer taskOf framed bound decoded judged raw items sortForms decSort binRels exprForms decExpr decPred decConstraint lower nameFault sortFault binderFault exprFault predFault shadowFault constraintFault dataCtorFault emptyFault datatypeFault kvarFault taskFault reservedWords literallyTrue flatten-constraint decimal write-name write-sort write-binder write-expr write-pred write-ctor write-datatype-decl write-const-decl write-kvar-decl write-implication write-assert opening closing textFault arityFault bodyFault functionFault constraintsFault
+unfolding surveyAnswer partAnswer partBuffer scriptAnswer scriptBuffer taskOf framed bound decoded judged raw items sortForms decSort binRels exprForms decExpr decPred decConstraint lower nameFault sortFault binderFault exprFault predFault shadowFault constraintFault dataCtorFault emptyFault datatypeFault kvarFault taskFault reservedWords literallyTrue flatten-constraint decimal write-name write-sort write-binder write-expr write-pred write-ctor write-datatype-decl write-const-decl write-kvar-decl write-implication write-assert opening closing thyFuncs textFault sortsFault needsSort thyFuncFault exprsFault arityFault bodyFault functionFault constraintsFault
 numbers = record {
   survey = refl;
+  listed = refl;
+  forms = refl;
   order = in-order;
   no-part = refl;
   part-short = refl;

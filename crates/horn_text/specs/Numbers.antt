@@ -10,7 +10,7 @@ use Rattle.smtlib.specs.Lexicon.{bytes, any}
 use Rattle.task.specs.declared.Fault.{Fault}
 use Rattle.task.specs.Fault.{refusalOf, lower}
 use Rattle.horn_text.specs.Answers.{refused, surveyPlaces, surveyNumbers, surveyAnswer}
-use Rattle.horn_text.specs.Table.{zeros, partCall, scriptCall, fileWith, constraintOnly, named, exprPred, head}
+use Rattle.horn_text.specs.Table.{zeros, partCall, scriptCall, offset, fileWith, fileOf, constraintOnly, named, exprPred, head, trueHead}
 
 -- FILES
 
@@ -30,22 +30,76 @@ forAllX c = 2 ∷ named "x" ++ 0 ∷ 0 ∷ 0 ∷ c
 abbrev pub accident : List ℕ
 accident = 13 ∷ 0 ∷ bytes "x\n(check-sat)"
 
+-- the datatype D without constructors
+abbrev pub emptyD : List ℕ
+emptyD = named "D" ++ 0 ∷ 0 ∷ 0 ∷ 0 ∷ []
+
+-- a file with the constant c of this sort
+abbrev pub constantOf : List ℕ → List ℕ
+constantOf sort = fileOf [] (named "c" ++ sort) nothing
+
+-- BvSize 8
+abbrev pub width8 : List ℕ
+width8 = 5 ∷ offset 8
+
+-- SetEmpty
+abbrev pub setEmpty : List ℕ
+setEmpty = 18 ∷ 38 ∷ []
+
+-- MapDefault
+abbrev pub mapDefault : List ℕ
+mapDefault = 18 ∷ 45 ∷ []
+
+-- WKVar
+abbrev pub wkVar : List ℕ
+wkVar = 6 ∷ []
+
+-- a file with this expression as its head
+abbrev pub headOf : List ℕ → List ℕ
+headOf e = constraintOnly (head (exprPred e))
+
 -- the function f without inputs, with output Int and the body true, which has the argument x
 abbrev pub oneArgument : List ℕ
 oneArgument = named "f" ++ 0 ∷ 0 ∷ 0 ∷ 0 ∷ 0 ∷ 1 ∷ 1 ∷ 0 ∷ named "x" ++ 1 ∷ 1 ∷ []
 
--- a file for each number that survey can answer, in the order of the list:
--- 1, 27 zero bytes; 2, 24 zero bytes and the mark; 3, an expression head of 254 Nots, whose last operand is due at level 257; 4, a comment with
--- a line feed; 5, a WKVar as a head; 6, a body with an argument too many; 7, a ForAll named like the one around it
-abbrev pub refusedFiles : List (List ℕ)
+-- a number, and a file that is to get it
+abbrev pub Row : Type 0
+Row = ℕ × List ℕ
+
+-- survey answers each file with its number
+abbrev pub Get : List Row → Type 0
+Get rows = map (λ r. surveyAnswer (r .1)) rows ≡ map (λ r. refused (r .0)) rows
+
+-- A file for each number that survey can answer. 1: 27 zero bytes. 2: 24 zero bytes and the mark. 3: an expression head of 254 Nots, whose last
+-- operand is due at level 257. 4: a comment with a line feed. 5: a datatype without constructors. 12: a BitVec of Int. 13: a bare SetEmpty as a
+-- head. 14: a WKVar as a head. 6: a body with an argument too many. 7: a ForAll named like the one around it.
+abbrev pub refusedFiles : List Row
 refusedFiles =
-    zeros 27 ∷
-    (zeros 24 ++ bytes "HORN") ∷
-    constraintOnly (head (exprPred (replicate 254 8))) ∷
-    fileWith accident [] [] [] [] nothing ∷
-    constraintOnly (head (exprPred (6 ∷ []))) ∷
-    fileWith [] [] [] oneArgument [] nothing ∷
-    constraintOnly (forAllX (forAllX nothing)) ∷
+    (1, zeros 27) ∷
+    (2, zeros 24 ++ bytes "HORN") ∷
+    (3, headOf (replicate 254 8)) ∷
+    (4, fileWith accident [] [] [] [] nothing) ∷
+    (5, fileOf emptyD [] nothing) ∷
+    (12, constantOf (4 ∷ 0 ∷ [])) ∷
+    (13, headOf setEmpty) ∷
+    (14, headOf wkVar) ∷
+    (6, fileWith [] [] [] oneArgument [] nothing) ∷
+    (7, constraintOnly (forAllX (forAllX nothing))) ∷
+    []
+
+-- Further files of forms that have no text (W-206). 12: a BvSize that is no BitVec's, a BitVec of a BitVec, and a BvSize that is never written,
+-- since no datatype declares the Data sort around it. 13: a bare MapDefault, SetEmpty as the head of an App without an output sort, and MapDefault
+-- as the argument of an App with one. 14: a WKVar as the head of such an App, and one as a guard of no assertion.
+abbrev pub formFiles : List Row
+formFiles =
+    (12, constantOf width8) ∷
+    (12, constantOf (4 ∷ 4 ∷ width8)) ∷
+    (12, constantOf (11 ∷ named "U" ++ 1 ∷ 0 ∷ width8)) ∷
+    (13, headOf mapDefault) ∷
+    (13, headOf (17 ∷ 0 ∷ setEmpty ++ 0 ∷ 0 ∷ [])) ∷
+    (13, headOf (17 ∷ 1 ∷ 0 ∷ setEmpty ++ 1 ∷ 0 ∷ mapDefault)) ∷
+    (14, headOf (17 ∷ 1 ∷ 0 ∷ wkVar ++ 0 ∷ 0 ∷ [])) ∷
+    (14, constraintOnly (2 ∷ named "x" ++ 0 ∷ 1 ∷ 0 ∷ exprPred wkVar ++ trueHead)) ∷
     []
 
 -- THE ORDER
@@ -62,8 +116,12 @@ placeOf f = place surveyPlaces (refusalOf f)
 -- THE TABLE (proofs/Rows.antt: numbers)
 
 pub record Numbers : Type 0 where
-  -- each number of the list is the answer to its file
-  pub survey : map surveyAnswer refusedFiles ≡ map refused surveyNumbers
+  -- each file gets its number
+  pub survey : Get refusedFiles
+  -- and these are the numbers of the list, in its order
+  pub listed : map (λ r. r .0) refusedFiles ≡ surveyNumbers
+  -- each form that has no text gets its number, wherever it stands
+  pub forms : Get formFiles
   -- the faults are judged in the order of the list: of two the one whose number has the place further in front
   pub order : (f g : Fault) → placeOf (lower f g) ≡ min (placeOf f) (placeOf g)
   -- there is no part 3 of the smallest file

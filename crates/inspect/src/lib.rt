@@ -1,4 +1,4 @@
-// The whole file: its trailer, its sections front to back, and the refusals 1 to 7.
+// The whole file: its trailer, its sections front to back, and what survey refuses.
 use constraint_check::Counted;
 use item_check::Section;
 use task::Fault;
@@ -49,9 +49,9 @@ fn refusal_of(f: Fault) -> u8
     match f {
         Fault::Text => 4,
         Fault::NoConstructors => 5,
-        Fault::BitVecWidth => 5,
-        Fault::Unqualified => 5,
-        Fault::WKVar => 5,
+        Fault::BitVecWidth => 12,
+        Fault::Unqualified => 13,
+        Fault::WKVar => 14,
         Fault::Arity => 6,
         Fault::Shadowed => 7,
         Fault::Sound => 0,

@@ -1,5 +1,5 @@
--- What is refused of a task that decodes: document 01, "What each call says no to", 4 to 7. A fault counts wherever it stands, also in
--- places that are never written.
+-- What is refused of a task that decodes: document 01, "What each call says no to", from 4 on, with the numbers of W-206. A fault counts wherever
+-- it stands, also in places that are never written.
 use Prim.Native.Nat.{ℕ, suc}
 use mathlib.Core.Bool.{Bool, true, false, cond, not, _&&_, _||_}
 use mathlib.Core.List.{List, [], _∷_, _++_}
@@ -25,13 +25,14 @@ rank Arity = 6
 rank Shadowed = 7
 rank Sound = 8
 
--- the number that is answered for a fault; 0 for none
+-- the number that is answered for a fault; 0 for none. W-206: of the forms that have no text a datatype without constructors keeps 5, and each
+-- other has a number of its own, judged before 6.
 abbrev pub refusalOf : Fault → ℕ
 refusalOf Text = 4
 refusalOf NoConstructors = 5
-refusalOf BitVecWidth = 5
-refusalOf Unqualified = 5
-refusalOf WKVar = 5
+refusalOf BitVecWidth = 12
+refusalOf Unqualified = 13
+refusalOf WKVar = 14
 refusalOf Arity = 6
 refusalOf Shadowed = 7
 refusalOf Sound = 0
@@ -75,7 +76,7 @@ ctorFault SortCtor.set = Sound
 ctorFault SortCtor.map = Sound
 ctorFault (SortCtor.named x) = nameFault x
 
--- 5: BvSize stands directly under BitVec, and nothing else does. Given whether a sort stands there: the fault of one that is no BvSize
+-- 12: BvSize stands directly under BitVec, and nothing else does. Given whether a sort stands there: the fault of one that is no BvSize
 abbrev pub widthFault : Bool → Fault
 widthFault under = unless (not under) BitVecWidth
 
@@ -160,7 +161,7 @@ needsSort MapDefault = true
 needsSort MapSelect = false
 needsSort MapStore = false
 
--- 5: such a function is the head of an application with an output sort. The test tells whether the function is one's head.
+-- 13: such a function is the head of an application with an output sort. The test tells whether the function is one's head.
 unfoldable pub thyFuncFault : Bool → ThyFunc → Fault
 thyFuncFault head f = unless (head || not (needsSort f)) Unqualified
 
@@ -193,6 +194,7 @@ unfoldable mutual
   exprFault head (Expr.thyFunc f) = thyFuncFault head f
   exprFault head (Expr.isCtor x e) = lower (nameFault x) (exprFault false e)
   exprFault head (Expr.quantifier q bs e) = lower (each binderFault bs) (exprFault false e)
+  -- 14: there is no text for it anywhere
   exprFault head Expr.wkVar = WKVar
 
   pub exprsFault : Exprs → Fault

@@ -1,4 +1,4 @@
--- The whole file: document 01's trailer and sections, and survey's refusals 1 to 7 in their order.
+-- The whole file: document 01's trailer and sections, and what survey refuses, in the order of judging.
 use Prim.Native.Nat.{ℕ, _+_, _-_, _*_}
 use mathlib.Core.Bool.{Bool, true, false, cond, not, _&&_}
 use mathlib.Core.List.{List, [], _∷_, _++_}
@@ -52,7 +52,7 @@ decoded file =
     (got (record { comments = comments; datatypes = datatypes; constants = constants; functions = functions; kvars = kvars; constraint = constraint }) end)
     (refuse 2)))))))
 
--- 4 to 7: the fault that is judged first, if there is one
+-- from 4 on: the fault that is judged first, if there is one
 unfoldable pub judged : Task → ℕ → Res Task
 judged t end = cond (eqb (refusalOf (taskFault t)) 0) (got t end) (refuse (refusalOf (taskFault t)))
 

@@ -12,9 +12,9 @@ use oracle::check::checked;
 use oracle::faults::{any_kind, Case, KINDS};
 use oracle::limits::limits;
 use oracle::shrink::smallest;
-use oracle::task::Answer;
+use oracle::task::{Answer, NOTED, REFUSALS};
 use oracle::text::Rendering;
-use std::{env, process::ExitCode};
+use std::{collections::HashMap, env, process::ExitCode};
 
 const FILES: usize = 200_000;
 
@@ -105,9 +105,12 @@ impl Compared {
     }
 }
 
-/// The files by kind and by answer: accepted at 0, and refused with 1 to 7.
+/// For each answer to a file the number of those that got it: accepted in front, then the refusals in the order of judging.
+type Counts = [usize; 1 + REFUSALS.len()];
+
+/// The files by kind and by answer, and those with two faults that are noted, by the refusals in the order of place.
 #[derive(Default)]
-struct Table { rows: Vec<(String, [usize; 8])>, compared: Compared }
+struct Table { rows: Vec<(String, Counts)>, pairs: HashMap<[u8; 2], usize>, compared: Compared }
 
 impl Table {
     fn add(&mut self, kind: &str, case: &Case) -> Same {
@@ -117,22 +120,27 @@ impl Table {
             return Err(format!("made for {due}, the rendering answers {number} (0: accepted)"));
         }
         let at = self.rows.iter().position(|row| row.0 == kind).unwrap_or_else(|| {
-            self.rows.push((kind.to_string(), [0; 8]));
+            self.rows.push((kind.to_string(), Counts::default()));
             self.rows.len() - 1
         });
-        self.rows[at].1[number as usize] += 1;
+        self.rows[at].1[REFUSALS.iter().position(|refusal| *refusal == number).map_or(0, |place| 1 + place)] += 1;
+        case.pair.iter().for_each(|pair| *self.pairs.entry(*pair).or_default() += 1);
         self.compared.file(&case.file, &answer)
     }
 
     fn print(&self) {
-        let print = |kind: &str, counts: &[usize; 8]| {
-            let numbers: String = counts.iter().map(|count| format!("{count:>9}")).collect();
-            println!("{kind:<14}{:>9}{numbers}", counts.iter().sum::<usize>());
-        };
-        let titles: String = (1..8).map(|refusal| format!("{refusal:>9}")).collect();
-        println!("{:<14}{:>9}{:>9}{titles}", "kind", "files", "accepted");
+        let columns = |numbers: &[usize]| numbers.iter().map(|number| format!("{number:>9}")).collect::<String>();
+        let titles = |refusals: &[u8]| columns(&refusals.iter().map(|refusal| *refusal as usize).collect::<Vec<_>>());
+        let print = |kind: &str, counts: &Counts| println!("{kind:<15}{:>9}{}", counts.iter().sum::<usize>(), columns(counts));
+        println!("{:<15}{:>9}{:>9}{}", "kind", "files", "accepted", titles(&REFUSALS));
         self.rows.iter().for_each(|(kind, counts)| print(kind, counts));
         print("total", &std::array::from_fn(|number| self.rows.iter().map(|(_, counts)| counts[number]).sum()));
+        println!("two faults, the row's in front of the column's");
+        println!("{:<15}{}", "", titles(NOTED));
+        for front in NOTED {
+            let counts: Vec<usize> = NOTED.iter().map(|behind| self.pairs.get(&[*front, *behind]).copied().unwrap_or(0)).collect();
+            println!("{front:<15}{}", columns(&counts));
+        }
         let Compared { parts, calls, sampled } = self.compared;
         println!("{parts} parts in {calls} calls");
         println!("of {sampled} files with more than {MANY_PARTS} parts: the first part, the last and every n-th, about {SAMPLED} in all");
@@ -154,7 +162,7 @@ fn main() -> ExitCode {
     let mut args = env::args().skip(1).map(|arg| arg.parse::<u64>().expect("a number"));
     let (files, seed) = (args.next().map_or(FILES, |files| files as usize), args.next().unwrap_or(SEED));
     let (mut chance, mut table) = (Chance::new(seed), Table::default());
-    KINDS.iter().for_each(|kind| table.rows.push((kind.0.to_string(), [0; 8])));
+    KINDS.iter().for_each(|kind| table.rows.push((kind.0.to_string(), Counts::default())));
     let limits = limits();
     let by_chance = files.saturating_sub(limits.len());
     for (name, case) in &limits {

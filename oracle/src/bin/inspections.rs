@@ -205,12 +205,18 @@ impl Reader<'_> {
     }
 }
 
-// ---- Refusals 4 to 7: all that holds of a tree, a bit for each
+// ---- The other refusals: all that holds of a tree, a bit for each
 
-const TEXT: u8 = 1 << 4;
-const FORM: u8 = 1 << 5;
-const ARITY: u8 = 1 << 6;
-const REPEATED: u8 = 1 << 7;
+/// In the order of judging; the lowest bit is the first's.
+const JUDGED: [u8; 7] = [4, 5, 12, 13, 14, 6, 7];
+
+const TEXT: u8 = 1;
+const NO_CTORS: u8 = 1 << 1;
+const WIDTH: u8 = 1 << 2;
+const NO_SORT: u8 = 1 << 3;
+const WEAK: u8 = 1 << 4;
+const ARITY: u8 = 1 << 5;
+const REPEATED: u8 = 1 << 6;
 
 const RESERVED: &str = "! _ as let exists forall match par BINARY DECIMAL HEXADECIMAL NUMERAL STRING assert check-sat check-sat-assuming \
     declare-const declare-datatype declare-datatypes declare-fun declare-sort define-fun define-fun-rec define-funs-rec define-sort echo \
@@ -243,8 +249,8 @@ fn in_named_sort((name, sort): &(Name, Sort)) -> u8 {
 fn in_sort(sort: &Sort) -> u8 {
     match sort {
         Sort::Plain => 0,
-        Sort::BvSize => FORM,
-        Sort::BitVec(size) => if let Sort::BvSize = **size { 0 } else { FORM | in_sort(size) },
+        Sort::BvSize => WIDTH,
+        Sort::BitVec(size) => if let Sort::BvSize = **size { 0 } else { WIDTH | in_sort(size) },
         Sort::App(args) => any(args, in_sort),
         Sort::Data(name, args) => in_name(name) | any(args, in_sort),
     }
@@ -259,8 +265,8 @@ fn in_expr(expr: &Expr) -> u8 {
         Expr::Number | Expr::Boolean(_) => 0,
         Expr::String(text) => in_text(text) | fault_if(text.contains(&b'"'), TEXT),
         Expr::Var(name) => in_name(name),
-        Expr::WKVar => FORM,
-        Expr::ThyFunc(_) => fault_if(needs_sort(expr), FORM),
+        Expr::WKVar => WEAK,
+        Expr::ThyFunc(_) => fault_if(needs_sort(expr), NO_SORT),
         Expr::Operation(operands) => any(operands, in_expr),
         Expr::Let(name, operands) | Expr::IsCtor(name, operands) => in_name(name) | any(operands, in_expr),
         Expr::App(None, head, args) => in_expr(head) | any(args, in_expr),
@@ -295,7 +301,7 @@ fn in_function(function: &Function) -> u8 {
 fn in_task(task: &Task) -> u8 {
     any(&task.comments, in_text)
         | any(&task.datatypes, |(name, ctors)| {
-            in_name(name) | fault_if(ctors.is_empty(), FORM) | any(ctors, |(name, fields)| in_name(name) | any(fields, in_named_sort))
+            in_name(name) | fault_if(ctors.is_empty(), NO_CTORS) | any(ctors, |(name, fields)| in_name(name) | any(fields, in_named_sort))
         })
         | any(&task.constants, in_named_sort)
         | any(&task.functions, in_function)
@@ -323,7 +329,7 @@ fn inspect(file: &[u8]) -> Answer<Inspection> {
     let task = Reader { bytes: &file[..end], at: 0, end: 0 }.task(&offsets)?;
     let faults = in_task(&task);
     if faults != 0 {
-        return Err(faults.trailing_zeros() as u8);
+        return Err(JUDGED[faults.trailing_zeros() as usize]);
     }
     let declarations = task.datatypes.len() + task.constants.len() + task.functions.len() + task.kvars.len();
     Ok(Inspection { offsets, end, declarations, heads: heads(&task.constraint) })
@@ -340,7 +346,7 @@ const USUAL: &Usual = &[
 fn bytes(words: &str) -> Vec<u8> { words::bytes(words, USUAL).expect("words") }
 fn sections(words: &str) -> Vec<Vec<u8>> { words::sections(words, USUAL).expect("words") }
 
-/// Each kind of piece: its letter, a file with one, the level there (0 for an item), its forms, and some forms that get 4, 5 or 6.
+/// Each kind of piece: its letter, a file with one, the level there (0 for an item), its forms, and some forms that are refused.
 type Kind = (&'static str, &'static str, usize, &'static [&'static str], &'static [&'static str]);
 
 const KINDS: [Kind; 9] = [
@@ -401,7 +407,7 @@ fn rich() -> Vec<Vec<String>> {
 // ---- The cases
 
 #[derive(Default)]
-struct Cases { stdin: Vec<u8>, stdout: String, counts: [usize; 8] }
+struct Cases { stdin: Vec<u8>, stdout: String, counts: [usize; 15] }
 
 impl Cases {
     fn answer(&mut self, file: &[u8]) -> Answer<(usize, usize)> {
@@ -478,7 +484,7 @@ fn codes(cases: &mut Cases) {
     }
     let function = |code: usize| format!("18 {code} {}", if code == 5 || code == 6 { "8" } else { "" });
     for code in (0..8).chain(36..48) {
-        cases.is(yes(code != 38 && code != 45, (0, 1), 5), &format!("h: 0 1 {}", function(code)));
+        cases.is(yes(code != 38 && code != 45, (0, 1), 13), &format!("h: 0 1 {}", function(code)));
     }
     let plain: Vec<String> = (0..48).filter(|code| *code != 38 && *code != 45).map(function).collect();
     cases.is(Ok((0, 1)), &format!("h: 0 1 13 #46 {}", plain.join(" ")));
@@ -503,8 +509,8 @@ fn codes(cases: &mut Cases) {
     ["13 #1 1 1", "8 1 0", "5 'true", "17 0 1 1 #0"].iter().for_each(|expr| cases.is(Ok((0, 1)), &format!("h: 0 1 {expr}")));
     // The two functions that need an output sort
     for (expected, expr) in [
-        (Ok((0, 1)), "17 1 S @ #0"), (Ok((0, 1)), "17 0 17 1 S @ #0 #0"), (Err(5), "17 0 @ #0"), (Err(5), "17 0 E #1 @"),
-        (Err(5), "17 1 S @ #1 @"), (Err(5), "17 1 S 17 0 @ #0 #0"), (Err(5), "17 1 5 *4 @ #0"), (Err(5), "17 1 S 7 @ #0"),
+        (Ok((0, 1)), "17 1 S @ #0"), (Ok((0, 1)), "17 0 17 1 S @ #0 #0"), (Err(13), "17 0 @ #0"), (Err(13), "17 0 E #1 @"),
+        (Err(13), "17 1 S @ #1 @"), (Err(13), "17 1 S 17 0 @ #0 #0"), (Err(12), "17 1 5 *4 @ #0"), (Err(13), "17 1 S 7 @ #0"),
     ] {
         ["18 38", "18 45"].iter().for_each(|function| cases.is(expected, &format!("h: 0 1 {}", expr.replace('@', function))));
     }
@@ -540,34 +546,52 @@ fn names(cases: &mut Cases) {
 
 fn faults(cases: &mut Cases) {
     for (i, place) in places("S", false).iter().chain(&places("S", true)).enumerate() {
-        cases.no(5, &place.with(1, ["5 8 *3", "4 0"][i % 2]));
+        cases.no(12, &place.with(1, ["5 8 *3", "4 0"][i % 2]));
         if i % 3 == 0 {
             cases.is(Ok(place.counts), &place.with(1, "4 5 8 *3"));
         }
     }
-    ["5 8 *3", "4 4 5 8 *3", "4 9 #0", "4 6 *2"].iter().for_each(|sort| cases.no(5, &format!("k: 'c {sort}")));
+    ["5 8 *3", "4 4 5 8 *3", "4 9 #0", "4 6 *2"].iter().for_each(|sort| cases.no(12, &format!("k: 'c {sort}")));
     for (i, place) in places("E", false).iter().chain(&places("E", true)).enumerate() {
-        cases.no(5, &place.with(1, ["6", "18 38"][i % 2]));
+        let (refusal, expr) = [(14, "6"), (13, "18 38"), (14, "17 1 S 6 #0"), (13, "18 45")][i % 4];
+        cases.no(refusal, &place.with(1, expr));
     }
     for (inputs, args) in [(0, 1), (1, 0), (2, 1), (1, 2), (3, 3), (256, 0), (0, 256), (257, 1), (256, 256)] {
         let expected = if inputs == args { Ok((1, 0)) } else { Err(6) };
         cases.is(expected, &format!("f: 'f *2 #{inputs} {} S 1 #{args} {} E", "S ".repeat(inputs), "N ".repeat(args)));
     }
     for (expected, words) in [
-        (Err(5), "d: 'D *2 #0"), (Err(5), "d: 'D 1 0 #1 'c #0 'E *2 #0"), (Err(5), "h: 1 #3 T 0 1 6 T"), (Err(5), "h: 2 'x S #1 1 6 T"),
-        (Err(4), "k: 'c 11 'U #1 11 'as #0"), (Err(5), "k: 'c 11 'U #1 5 *4"), (Err(4), "h: 1 #2 T 2 'x S #1 0 'k #1 5 'let C"),
+        (Err(5), "d: 'D *2 #0"), (Err(5), "d: 'D 1 0 #1 'c #0 'E *2 #0"), (Err(14), "h: 1 #3 T 0 1 6 T"), (Err(14), "h: 2 'x S #1 1 6 T"),
+        (Err(4), "k: 'c 11 'U #1 11 'as #0"), (Err(12), "k: 'c 11 'U #1 5 *4"), (Err(4), "h: 1 #2 T 2 'x S #1 0 'k #1 5 'let C"),
         // ForAlls
         (Err(7), "h: X X H"), (Err(7), "h: X X C"), (Err(7), "h: X Y X T"), (Err(7), "h: X 1 #2 T Y 1 #2 C X T"),
         (Err(7), "h: 1 #3 X C Y Y C T"), (Ok((0, 1)), "h: 1 #3 X C X T Y X H"), (Ok((0, 0)), "h: Y 1 #2 X C X T"),
         (Ok((0, 0)), "h: X 2 'xx S #0 2 'X S #0 C"), (Ok((0, 1)), "h: X 0 1 20 0 #1 'x S 16 'x E E"), (Ok((2, 0)), "k: 'x S 'x S h: X C"),
-        // Several faults: the lowest is answered, wherever it stands
-        (Err(4), "c: #1 10 k: 'c 5 *4"), (Err(4), "k: 'c 5 *4 h: 0 0 'let #0"), (Err(4), "k: 'c 5 *4 F h: X X 0 0 'let #0"),
-        (Err(4), "c: #1 10 F h: X X C"), (Err(4), "f: 'f *2 #1 S S 1 #0 5 '1"), (Err(4), "h: X X 0 0 'let #0"),
-        (Err(4), "h: 2 'as S #0 2 'as S #0 C"), (Err(4), "k: 'c 4 11 'par #0"), (Err(5), "k: 'c 5 *4 F"), (Err(5), "F v: 'k #1 4 0"),
-        (Err(5), "F h: X X 0 1 6"), (Err(5), "f: 'f *2 #0 S 1 #1 N 18 38"), (Err(5), "h: X X 0 1 6"), (Err(6), "F h: X X C"),
+        // Several faults: the first judged is answered, wherever it stands
+        (Err(4), "k: 'c 5 *4 F h: X X 0 0 'let #0"), (Err(4), "c: #1 10 F h: X X C"), (Err(4), "f: 'f *2 #1 S S 1 #0 5 '1"),
+        (Err(4), "h: X X 0 0 'let #0"), (Err(4), "h: 2 'as S #0 2 'as S #0 C"), (Err(4), "k: 'c 4 11 'par #0"), (Err(12), "F v: 'k #1 4 0"),
+        (Err(14), "F h: X X 0 1 6"), (Err(13), "f: 'f *2 #0 S 1 #1 N 18 38"), (Err(14), "h: X X 0 1 6"), (Err(12), "h: 0 1 17 1 4 0 18 38 #1 6"),
         (Err(2), "c: #1 10 k: 'c 5 *4 F h: 3"), (Err(2), "h: X X C 0"),
     ] {
-        cases.is(expected, &words.replace('F', "f: 'f *2 #1 S S 1 #0 E"));
+        cases.is(expected, &words.replace('F', WRONG_ARGUMENTS));
+    }
+}
+
+const WRONG_ARGUMENTS: &str = "f: 'f *2 #1 S S 1 #0 E";
+
+/// Two faults in one file, in both orders of place wherever both can be had: expressions stand behind all datatypes and ForAlls behind all else.
+fn pairs(cases: &mut Cases) {
+    let front = [(4, "c: #1 10"), (5, "d: 'D *2 #0"), (12, "k: 'c 5 *4"), (13, "f: 'g *2 #0 S 1 #0 18 38"), (14, "f: 'g *2 #0 S 1 #0 6"),
+        (6, WRONG_ARGUMENTS)];
+    let behind = [(4, "h: 0 0 'let #0"), (12, "h: 2 'x 5 *4 #0 C"), (13, "h: 0 1 18 45"), (14, "h: 0 1 6"), (7, "h: X X C"),
+        (6, WRONG_ARGUMENTS)];
+    let apart = front.iter().flat_map(|a| behind.iter().map(move |b| (a.0, b.0, format!("{} {}", a.1, b.1))));
+    let beside = [
+        (4, 5, "c: #1 10 d: 'D *2 #0"), (4, 5, "d: 'as *2 #1 'a #0 'D *2 #0"), (12, 5, "d: 'A *2 #1 'a #1 'f 5 *4 'D *2 #0"),
+        (7, 4, "h: X X 0 1 5 'let"), (7, 12, "h: X 2 'x 4 0 #0 C"), (7, 13, "h: X X 0 1 18 38"), (7, 14, "h: X X 0 1 6"),
+    ];
+    for (a, b, words) in apart.chain(beside.map(|(a, b, words)| (a, b, words.to_string()))) {
+        cases.no(*JUDGED.iter().find(|refusal| [a, b].contains(refusal)).expect("judged"), &words);
     }
 }
 
@@ -599,15 +623,15 @@ fn levels(cases: &mut Cases) {
 /// What stands before a piece at level 257, and what stands there.
 fn last_levels(cases: &mut Cases) {
     for (expected, times, before, inner) in [
-        // BitVecs get 5 where they are not too deep
-        (Err(5), 255, "4 ", "0"), (Err(3), 256, "4 ", "0"), (Err(3), 256, "4 ", "255"), (Err(3), 256, "4 ", ""),
+        // BitVecs get 12 where they are not too deep
+        (Err(12), 255, "4 ", "0"), (Err(3), 256, "4 ", "0"), (Err(3), 256, "4 ", "255"), (Err(3), 256, "4 ", ""),
         (Ok((1, 0)), 254, "9 #1 ", "4 5 *4"), (Err(3), 255, "9 #1 ", "4 5 *4"), (Err(2), 255, "9 #1 ", "8 0"),
     ] {
         cases.is(expected, &format!("k: 'c {} {inner}", before.repeat(times)));
     }
     // An expression at level 256: what stands before its first child comes first
     for (refusal, expr) in [
-        (2, "9 5"), (2, "10"), (2, "16 0"), (2, "17 2"), (2, "13 1"), (2, "20 2"), (2, "20 0 #1 0"), (2, "18 48"), (2, "19 2 99"), (5, "6"),
+        (2, "9 5"), (2, "10"), (2, "16 0"), (2, "17 2"), (2, "13 1"), (2, "20 2"), (2, "20 0 #1 0"), (2, "18 48"), (2, "19 2 99"), (14, "6"),
         (3, "9 0"), (3, "16 'v"), (3, "17 1"), (3, "14 #65535"), (3, "20 0 #1 'q"),
     ] {
         cases.no(refusal, &format!("f: 'f *2 #0 S 1 #0 {} {expr}", "7 ".repeat(255)));
@@ -727,10 +751,11 @@ fn by_chance(cases: &mut Cases) {
 fn main() -> io::Result<()> {
     let directory = env::args().nth(1).expect("the directory to write into");
     let mut cases = Cases::default();
-    [limits, codes, names, faults, levels, last_levels, first_met, cuts, by_chance].iter().for_each(|group| group(&mut cases));
+    [limits, codes, names, faults, pairs, levels, last_levels, first_met, cuts, by_chance].iter().for_each(|group| group(&mut cases));
     let (counts, files) = (cases.counts, cases.stdout.lines().count());
-    eprintln!("{files} files: accepted {}, refused with 1 to 7 {:?}", counts[0], &counts[1..]);
-    assert!(counts.iter().all(|count| *count >= 8));
+    let refused = [1, 2, 3].iter().chain(&JUDGED).map(|refusal| (*refusal, counts[*refusal as usize]));
+    eprintln!("{files} files: accepted {}, refused {:?}", counts[0], refused.clone().collect::<Vec<_>>());
+    assert!(counts[0] >= 8 && refused.clone().all(|(_, count)| count >= 8) && counts[0] + refused.map(|(_, count)| count).sum::<usize>() == files);
     fs::write(Path::new(&directory).join("stdin"), cases.stdin)?;
     fs::write(Path::new(&directory).join("stdout"), cases.stdout)
 }

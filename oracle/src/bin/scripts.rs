@@ -4,14 +4,14 @@
 //!
 //! It writes two files into the directory named. `stdin` has the test files, each behind its length (4 bytes, little-endian). `stdout` has
 //! for each of them a head line and then what `hornscript` writes: the script, or the line `refused N`. The head line is
-//! `file I: P parts, A assertions, L bytes, longest M`, or `file I: refused N` for the refusals 1 to 7. A file with a part above 65,536
-//! bytes has the first kind of head line and then `refused 9`.
+//! `file I: P parts, A assertions, L bytes, longest M`, or `file I: refused N` for a file that is refused. An accepted one with a part above
+//! 65,536 bytes has the first kind of head line and then `refused 9`.
 //! Most files carry the commands, the longest part or the refusal they were made for, and the run stops where the rendering disagrees.
 //! Those made by chance carry none; they have to be accepted. Those damaged by chance may get any answer.
 use oracle::chance::{Chance, SEED};
 use oracle::check::checked;
 use oracle::limits::{nested, ACCIDENT, TABLE};
-use oracle::task::{trailer, Answer, LONGEST_FILE, MAP_DEFAULT, SET_EMPTY, SIGN_EXTEND, THEORY, TRAILER, ZERO_EXTEND};
+use oracle::task::{trailer, Answer, LONGEST_FILE, MAP_DEFAULT, REFUSALS, SET_EMPTY, SIGN_EXTEND, THEORY, TRAILER, ZERO_EXTEND};
 use oracle::text::{line, Rendering};
 use oracle::words::{packed, sealed, S};
 use std::{env, fs, io, path::Path};
@@ -29,9 +29,9 @@ fn hornscript(answer: &Answer<Rendering>) -> String {
 
 // ---- The cases
 
-/// `counts` has the number of accepted files at 0, and of those refused with 1 to 9 behind it.
+/// `counts` has the number of accepted files at 0, and at each other number that of the files refused with it.
 #[derive(Default)]
-struct Cases { stdin: Vec<u8>, stdout: String, counts: [usize; 10] }
+struct Cases { stdin: Vec<u8>, stdout: String, counts: [usize; 15] }
 
 impl Cases {
     fn add(&mut self, file: &[u8]) -> Answer<Rendering> {
@@ -321,8 +321,10 @@ fn refusals(cases: &mut Cases) {
         (4, &["k: 'par 0", "k: '1 0", "v: 'a(b #0", "c: #1 10", "h: 0 1 3 #1 34", "h: 0 1 3 #1 127", "h: 2 'let 0 #0 C",
             "h: 0 0 'assert #0", "h: 0 1 5 'check-sat", ACCIDENT,
             "k: 'c 11 'U #1 11 'as #0"]),
-        (5, &["d: 'D #0 #0", "k: 'c 4 0", "k: 'c 5 8 *3", "h: 0 1 6", "h: 0 1 18 38", "h: 0 1 17 0 18 45 #1 E", "h: 2 'x S #1 1 6 0 T",
-            "h: 2 'x 5 8 *3 #0 C"]),
+        (5, &["d: 'D #0 #0", "d: 'E #1 #1 'e #0 'D #0 #0", "d: 'D #0 #0 k: 'c 4 0 h: 0 1 6"]),
+        (12, &["k: 'c 4 0", "k: 'c 5 8 *3", "k: 'c 11 'U #1 5 *4", "h: 2 'x 5 8 *3 #0 C", "f: 'f #0 #0 0 1 #1 'x 18 38 v: 'k #1 4 4 5 *4"]),
+        (13, &["h: 0 1 18 38", "h: 0 1 18 45", "h: 0 1 17 0 18 45 #1 E", "h: 1 #2 0 1 6 0 1 17 1 0 18 38 #1 18 38"]),
+        (14, &["h: 0 1 6", "h: 2 'x S #1 1 6 0 T", "f: 'f #0 #0 0 1 #1 'x 6", "f: 'f #0 #1 0 0 1 #0 E h: X X 0 1 6"]),
         (6, &["f: 'f #0 #1 0 0 1 #0 E", "f: 'f #0 #0 0 1 #1 'x E", "f: 'f #0 #2 0 0 0 1 #1 'x E h: X X 0 K"]),
         (7, &["h: X X 0 K", "h: X Y X 0 T", "h: X Y Y 0 K", "h: X Y Z Y C", "h: X 1 #2 0 K Y 1 #1 X C", "h: 1 #2 X 0 K Y Z Y 0 K"]),
     ] {
@@ -330,8 +332,34 @@ fn refusals(cases: &mut Cases) {
     }
     cases.no(3, &format!("k: 'c {} 0", "9 #1 ".repeat(256)));
     cases.no(3, &format!("h: {} C", "1 #1 ".repeat(256)));
-    cases.no(3, &format!("h: 0 1 {}", "7 ".repeat(254)));
-    cases.no(5, &format!("h: X X 0 1 {} 6", "8 ".repeat(251)));
+    cases.no(3, &format!("h: 0 1 {}", "8 ".repeat(254)));
+    cases.no(14, &format!("h: X X 0 1 {} 6", "8 ".repeat(251)));
+}
+
+const DESK: &str = include_str!("../../../docs/REFUSALS.md");
+
+/// The examples of docs/REFUSALS.md for the program: bytes of one section, which stand there between backquotes under the number.
+const EXAMPLES: [(u8, &str, &str); 10] = [
+    (4, "h:", "0 1 5 1 40"), (5, "d:", "1 68 0 0 0 0"), (12, "k:", "1 99 4 0"), (12, "k:", "1 99 5 8 0 0 0"), (13, "h:", "0 1 18 38"),
+    (13, "h:", "0 1 17 0 18 45 0 0"), (14, "h:", "0 1 6"), (6, "f:", "1 102 0 0 0 0 0 1 1 0 1 120 1 1"),
+    (7, "h:", "2 1 120 0 0 0 2 1 120 0 0 0 1 0 0"), (9, "d:", "1 100 255 255 1 0 1 99 0 0"),
+];
+
+fn examples(cases: &mut Cases) {
+    for (refusal, section, bytes) in EXAMPLES {
+        let (_, behind) = DESK.split_once(&format!("\n## {refusal}: ")).expect("a heading");
+        let example = behind.split_once("\n## ").expect("another heading").0.split_once("- Example").expect("an example").1;
+        assert!(example.contains(&format!("`{bytes}`")), "{refusal}: {bytes}");
+        let answer = cases.add(&packed(&format!("{section} {bytes}")));
+        assert_eq!(hornscript(&answer), format!("refused {refusal}\n"));
+    }
+    // A comment with `x`, a line feed and a command
+    cases.no(4, "c: #13 120 10 40 99 104 101 99 107 45 115 97 116 41");
+    // What is to be done for 13: the empty set of Int, and the map from Int to Bool that is false everywhere
+    for (text, bytes) in [("(as emptyset (Set Int))", "17 1 9 1 0 0 18 38 0 0"), ("((as const (Array Int Bool)) false)", "17 1 10 2 0 0 1 18 45 1 0 1 0")] {
+        assert!(DESK.contains(&format!("`{bytes}`")));
+        cases.is(&format!("(assert (=> (not {text}) false))"), &format!("h: 0 1 {bytes}"));
+    }
 }
 
 // ---- Cases by chance
@@ -397,13 +425,14 @@ fn by_chance(cases: &mut Cases) {
 fn main() -> io::Result<()> {
     let directory = env::args().nth(1).expect("the directory to write into");
     let mut cases = Cases::default();
-    for group in [table, comments, declarations, nested_assertions, assertions, large, lengths, refusals, by_chance] {
+    for group in [table, comments, declarations, nested_assertions, assertions, large, lengths, refusals, examples, by_chance] {
         group(&mut cases);
     }
     let (counts, files) = (cases.counts, cases.counts.iter().sum::<usize>());
-    eprintln!("{files} files: accepted {}, refused with 1 to 7 {:?}, with 9 {}", counts[0], &counts[1..8], counts[9]);
+    let refused = REFUSALS.iter().chain(&[9]).map(|refusal| (*refusal, counts[*refusal as usize]));
+    eprintln!("{files} files: accepted {}, refused {:?}", counts[0], refused.clone().collect::<Vec<_>>());
     eprintln!("{} bytes of stdin, {} of stdout", cases.stdin.len(), cases.stdout.len());
-    assert!(counts[8] == 0 && [&counts[..8], &counts[9..]].concat().iter().all(|count| *count >= 3));
+    assert!(refused.clone().all(|(_, count)| count >= 3) && counts[0] + refused.map(|(_, count)| count).sum::<usize>() == files);
     fs::create_dir_all(&directory)?;
     fs::write(Path::new(&directory).join("stdin"), cases.stdin)?;
     fs::write(Path::new(&directory).join("stdout"), cases.stdout)
