@@ -267,15 +267,18 @@ fn weak_kvar(draft: &Draft, chance: &mut Chance) -> Option<Splice> {
     instead(draft, chance, &[6], |spot| matches!(spot, Spot::Piece('E') | Spot::Head))
 }
 
-/// One of the two functions that need a sort, where there is none for them.
+/// One of the two functions that need a sort.
+fn needs_sort(chance: &mut Chance) -> u8 { [SET_EMPTY, MAP_DEFAULT][chance.below(2)] as u8 }
+
+/// Such a function by itself.
 fn bare_function(draft: &Draft, chance: &mut Chance) -> Option<Splice> {
-    let function = [SET_EMPTY, MAP_DEFAULT][chance.below(2)] as u8;
+    let function = needs_sort(chance);
     instead(draft, chance, &[18, function], |spot| *spot == Spot::Piece('E'))
 }
 
-/// One of them as the head of an App without an output sort.
+/// Such a function as the head of an App without an output sort.
 fn function_without_sort(draft: &Draft, chance: &mut Chance) -> Option<Splice> {
-    let function = [SET_EMPTY, MAP_DEFAULT][chance.below(2)] as u8;
+    let function = needs_sort(chance);
     instead(draft, chance, &[17, 0, 18, function, 0, 0], |spot| *spot == Spot::Piece('E'))
 }
 
