@@ -20,7 +20,7 @@
  *   7       a ForAll named like one around it
  *   8       no such part
  *   9       the buffer is too short
- * They stand here in the order of judging, where 2 and 3 share a place: the first met. Up to 7 they are survey's, and every call's.
+ * They stand here in the order of judging, where 2 and 3 share a place: the first met. All but 8 and 9 are survey's, and every call's.
  * docs/REFUSALS.md has each of them at length. The calls keep nothing and share nothing: they may run at the same time in several threads. */
 #ifndef JIGGERREEF_H
 #define JIGGERREEF_H

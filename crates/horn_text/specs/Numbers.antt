@@ -10,7 +10,7 @@ use Rattle.smtlib.specs.Lexicon.{bytes, any}
 use Rattle.task.specs.declared.Fault.{Fault}
 use Rattle.task.specs.Fault.{refusalOf, lower}
 use Rattle.horn_text.specs.Answers.{refused, surveyPlaces, surveyNumbers, surveyAnswer}
-use Rattle.horn_text.specs.Table.{zeros, partCall, scriptCall, offset, fileWith, fileOf, constraintOnly, named, exprPred, head, trueHead}
+use Rattle.horn_text.specs.Table.{zeros, partCall, scriptCall, offset, fileWith, fileOf, constraintOnly, named, var, exprPred, head, trueHead}
 
 -- FILES
 
@@ -87,14 +87,15 @@ refusedFiles =
     (7, constraintOnly (forAllX (forAllX nothing))) ∷
     []
 
--- Further files of forms that have no text (W-206). 12: a BvSize that is no BitVec's, a BitVec of a BitVec, and a BvSize that is never written,
--- since no datatype declares the Data sort around it. 13: a bare MapDefault, SetEmpty as the head of an App without an output sort, and MapDefault
--- as the argument of an App with one. 14: a WKVar as the head of such an App, and one as a guard of no assertion.
+-- Further files of forms that have no text (W-206). 12: a BvSize that is no BitVec's, a BitVec of a BitVec, and two that are never written: a BvSize
+-- in a Data sort that no datatype declares, and one as the output sort of a Var. 13: a bare MapDefault, SetEmpty as the head of an App without an
+-- output sort, and MapDefault as the argument of an App with one. 14: a WKVar as the head of such an App, and one as a guard of no assertion.
 abbrev pub formFiles : List Row
 formFiles =
     (12, constantOf width8) ∷
     (12, constantOf (4 ∷ 4 ∷ width8)) ∷
     (12, constantOf (11 ∷ named "U" ++ 1 ∷ 0 ∷ width8)) ∷
+    (12, headOf (17 ∷ 1 ∷ width8 ++ var "x" ++ 0 ∷ 0 ∷ [])) ∷
     (13, headOf mapDefault) ∷
     (13, headOf (17 ∷ 0 ∷ setEmpty ++ 0 ∷ 0 ∷ [])) ∷
     (13, headOf (17 ∷ 1 ∷ 0 ∷ setEmpty ++ 1 ∷ 0 ∷ mapDefault)) ∷
