@@ -1,5 +1,5 @@
 -- For each number that a call can answer a small file that gets it, so that no number is listed for nothing; and that the list has the order of
--- judging. docs/REFUSALS.md shows the same files.
+-- judging. docs/REFUSALS.md shows the first file of each number.
 use Prim.Native.Nat.{ℕ, suc, min}
 use mathlib.Core.Path.{_≡_}
 use mathlib.Core.Bool.{cond}
@@ -87,15 +87,17 @@ refusedFiles =
     (7, constraintOnly (forAllX (forAllX nothing))) ∷
     []
 
--- Further files of forms that have no text (W-206). 12: a BvSize that is no BitVec's, a BitVec of a BitVec, and two that are never written: a BvSize
--- in a Data sort that no datatype declares, and one as the output sort of a Var. 13: a bare MapDefault, SetEmpty as the head of an App without an
--- output sort, and MapDefault as the argument of an App with one. 14: a WKVar as the head of such an App, and one as a guard of no assertion.
+-- Further files of forms that have no text (W-206). 12: a BvSize that is no BitVec's, a BitVec of a BitVec, and three that are never written: a BvSize
+-- in a Data sort that no datatype declares, one as the output sort of a Var, and one as the sort of a ForAll without heads. 13: a bare MapDefault,
+-- SetEmpty as the head of an App without an output sort, and MapDefault as the argument of an App with one. 14: a WKVar as the head of such an
+-- App, and one as a guard of no assertion.
 abbrev pub formFiles : List Row
 formFiles =
     (12, constantOf width8) ∷
     (12, constantOf (4 ∷ 4 ∷ width8)) ∷
     (12, constantOf (11 ∷ named "U" ++ 1 ∷ 0 ∷ width8)) ∷
     (12, headOf (17 ∷ 1 ∷ width8 ++ var "x" ++ 0 ∷ 0 ∷ [])) ∷
+    (12, constraintOnly (2 ∷ named "x" ++ width8 ++ 0 ∷ 0 ∷ nothing)) ∷
     (13, headOf mapDefault) ∷
     (13, headOf (17 ∷ 0 ∷ setEmpty ++ 0 ∷ 0 ∷ [])) ∷
     (13, headOf (17 ∷ 1 ∷ 0 ∷ setEmpty ++ 1 ∷ 0 ∷ mapDefault)) ∷
@@ -121,7 +123,7 @@ pub record Numbers : Type 0 where
   pub survey : Get refusedFiles
   -- and these are the numbers of the list, in its order
   pub listed : map (λ r. r .0) refusedFiles ≡ surveyNumbers
-  -- each form that has no text gets its number, wherever it stands
+  -- so does each of the further files
   pub forms : Get formFiles
   -- the faults are judged in the order of the list: of two the one whose number has the place further in front
   pub order : (f g : Fault) → placeOf (lower f g) ≡ min (placeOf f) (placeOf g)

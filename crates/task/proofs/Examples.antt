@@ -100,6 +100,11 @@ pub stray-width : sortFault false (Sort.bvSize 8) ≡ BitVecWidth
 unfolding sortFault
 stray-width = refl
 
+-- BvSize as an output sort that its head has no use for.
+pub unused-width : exprFault false (Expr.app (Expr.var (bytes "x")) Exprs.none (some (Sort.bvSize 8))) ≡ BitVecWidth
+unfolding lower nameFault sortFault exprFault exprsFault reservedWords
+unused-width = refl
+
 -- SetEmpty as the head of an application with an output sort, and without one.
 pub qualified : exprFault false (Expr.app (Expr.thyFunc SetEmpty) Exprs.none (some Sort.int)) ≡ Sound
 unfolding lower sortFault needsSort thyFuncFault exprFault exprsFault
