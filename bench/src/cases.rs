@@ -14,7 +14,7 @@ pub const WHOLE: usize = 4;
 /// A case: its name, whether its growth is measured, and its files at so many quarters of its size.
 pub type Case = (&'static str, bool, fn(usize) -> Vec<Vec<u8>>);
 
-pub const CASES: [Case; 11] = [
+pub const CASES: [Case; 13] = [
     ("deep", true, |quarters| vec![deep(quarters)]),
     ("wide", true, |quarters| vec![packed(&format!("h: {}", heads(share(WIDE_HEADS, quarters))))]),
     ("wide-kvars", false, |quarters| vec![filled(quarters, "v: 'k0 #1 0 h: 2 'x 0 #2 P P 1 #@", || "0 0 'k0 #1 5 'x".to_string())]),
@@ -24,6 +24,8 @@ pub const CASES: [Case; 11] = [
     ("applications", true, |quarters| vec![applications(share(APPS, quarters), share(VARIABLES, quarters))]),
     ("names", true, |quarters| vec![filled(quarters, "h: 0 1 13 #@", || "17 0 5 'merge #2 5 'left 5 'right".to_string())]),
     ("numerals", false, |quarters| vec![numerals(quarters)]),
+    ("strings", false, |quarters| vec![strings(quarters, |chance| 35 + chance.below(92) as u8)]),
+    ("quotes", false, |quarters| vec![strings(quarters, |_| b'"')]),
     ("generated", false, generated),
     ("small", false, |_| vec![include_bytes!("../../crates/hornscript/stdin").to_vec()]),
 ];
@@ -36,6 +38,7 @@ const FEW_DATATYPES: usize = 20;
 const SORTS_OF_A_KVAR: usize = 4;
 const APPS: usize = 240;
 const VARIABLES: usize = 9000;
+const STRING_BYTES: usize = 1000;
 const GENERATED: usize = 1000;
 
 /// The pieces of the drafts that expressions are taken from, and the bytes that each of these has at least.
@@ -106,6 +109,15 @@ fn numerals(quarters: usize) -> Vec<u8> {
     filled(quarters, "h: 0 1 13 #@", || {
         let numeral: [u8; 16] = std::array::from_fn(|i| if i < 15 { chance.below(256) } else { 128 + chance.below(128) } as u8);
         format!("0 {}", as_words(&numeral))
+    })
+}
+
+/// Strings of STRING_BYTES bytes.
+fn strings(quarters: usize, byte: fn(&mut Chance) -> u8) -> Vec<u8> {
+    let mut chance = Chance::new(SEED);
+    filled(quarters, "h: 0 1 13 #@", || {
+        let string: Vec<u8> = repeat_with(|| byte(&mut chance)).take(STRING_BYTES).collect();
+        format!("3 #{STRING_BYTES} {}", as_words(&string))
     })
 }
 

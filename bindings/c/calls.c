@@ -101,6 +101,17 @@ static void forms(void) {
     refused_with(14, weak, sizeof weak);
 }
 
+/* a head that is a string of one quotation mark */
+static void quoted(void) {
+    static const uint8_t constraint[] = {0, 1, 3, 1, 0, '"'}, assertion[] = "(assert (=> (not \"\"\"\") false))\n";
+    uint8_t file[34] = {0}, buf[64];
+    size_t length = 0;
+    memcpy(file, constraint, 6);
+    memcpy(file + 30, "HORN", 4);
+    expect(jiggerreef_part(file, 34, 2, buf, 64, &length) == 0, "a string with a quotation mark is accepted");
+    expect(length == sizeof assertion - 1 && memcmp(buf, assertion, length) == 0, "and the mark is written twice");
+}
+
 int main(int argc, char **argv) {
     static uint8_t file[MOST], script[MOST];
     if (argc != 3) {
@@ -112,6 +123,7 @@ int main(int argc, char **argv) {
     written(file, n, script, m);
     refused();
     forms();
+    quoted();
     printf("%d passed, %d failed\n", passed, failed);
     return failed != 0;
 }

@@ -11,7 +11,7 @@
  *   1       no task file: wrong length, mark or offsets
  *   2       a piece that leaves its section, an unknown code, a wrong flag, an empty name, bytes left
  *   3       a piece below the 256th level
- *   4       a name, comment or string that could not be read back
+ *   4       a name that is no simple symbol, or a comment or string with a byte outside 32 to 126
  *   5       a datatype without constructors
  *   12      a BitVec over another sort than BvSize, or a BvSize elsewhere
  *   13      SetEmpty or MapDefault anywhere but as the head of an App with an output sort

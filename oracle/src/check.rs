@@ -1,6 +1,8 @@
 //! What has to hold of every rendering, seen from its text alone.
+use crate::strings::{read, strings};
 use crate::task::{accepted, Answer, Constraint, Task};
 use crate::text::{write_smt_horn, Rendering};
+use std::collections::HashSet;
 
 /// The number of heads that are not literally true.
 fn heads(constraint: &Constraint) -> usize {
@@ -34,6 +36,8 @@ fn check(task: &Task, rendering: &Rendering) {
     let (script, parts) = (&rendering.script, rendering.ends.len());
     assert!(parts == declarations + rendering.assertions + 3 && rendering.assertions == heads(&task.constraint));
     assert!(rendering.ends.is_sorted() && rendering.ends.last() == Some(&script.len()) && script.is_ascii());
+    let strings: HashSet<&str> = strings(task).into_iter().collect();
+    assert!(read(script).strings.iter().all(|string| strings.contains(&string[..])), "a string that the task has not");
     assert!(rendering.part(0).starts_with("(set-logic HORN)\n\n") && rendering.part(parts - 1) == "\n(check-sat)\n");
     for i in 0..parts {
         let (part, blank) = (rendering.part(i), i == declarations + 1);

@@ -291,7 +291,7 @@ impl<'c> Maker<'c> {
     /// A comment or a string.
     fn text(&mut self, spot: Spot) {
         let (start, most) = (self.here(), [1, 8, 24, 24, 24, 24, 24, 600][self.chance.below(8)]);
-        let text = text(self.chance, most, spot == Spot::String);
+        let text = text(self.chance, most);
         self.put(&text);
         self.mark(spot, start, 0);
     }
@@ -355,9 +355,10 @@ pub fn symbol(chance: &mut Chance) -> String {
 /// A name behind its length.
 pub fn named(name: &[u8]) -> Vec<u8> { [&[name.len() as u8], name].concat() }
 
-/// A text of less than so many bytes behind its length; a string has no quotation mark.
-pub fn text(chance: &mut Chance, most: usize, string: bool) -> Vec<u8> {
-    let printable = (0..chance.below(most)).map(|_| b' ' + chance.below(95) as u8);
-    let text: Vec<u8> = printable.map(|byte| if string && byte == b'"' { b'!' } else { byte }).collect();
+/// A text of less than so many bytes behind its length. In one of four about half of the bytes are quotation marks.
+pub fn text(chance: &mut Chance, most: usize) -> Vec<u8> {
+    let (length, quoting) = (chance.below(most), chance.below(4) == 0);
+    let mut byte = || if quoting && chance.below(2) == 0 { b'"' } else { b' ' + chance.below(95) as u8 };
+    let text: Vec<u8> = (0..length).map(|_| byte()).collect();
     [&(text.len() as u16).to_le_bytes(), &text[..]].concat()
 }

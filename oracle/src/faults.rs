@@ -236,16 +236,16 @@ fn wrong_name(draft: &Draft, chance: &mut Chance) -> Option<Splice> {
 }
 
 /// A text with one of the bytes that it may not have.
-fn wrong_text(draft: &Draft, chance: &mut Chance, spot: Spot, bytes: &[u8]) -> Option<Splice> {
-    let (place, mut text) = (place(draft, chance, |found| *found == spot)?, text(chance, 40, spot == Spot::String));
-    let (at, bytes) = (chance.below(text.len() - 1), [bytes, &[0, 9, 10, 13, 31, 127, 128, 255]].concat());
+fn wrong_text(draft: &Draft, chance: &mut Chance, spot: Spot) -> Option<Splice> {
+    let (place, mut text) = (place(draft, chance, |found| *found == spot)?, text(chance, 40));
+    let (at, bytes) = (chance.below(text.len() - 1), [0, 9, 10, 13, 31, 127, 128, 255]);
     text.insert(2 + at, bytes[chance.below(bytes.len())]);
     text[0] += 1;
     Some(Splice::at(place, text))
 }
 
-fn wrong_comment(draft: &Draft, chance: &mut Chance) -> Option<Splice> { wrong_text(draft, chance, Spot::Comment, &[]) }
-fn wrong_string(draft: &Draft, chance: &mut Chance) -> Option<Splice> { wrong_text(draft, chance, Spot::String, b"\"\"\"") }
+fn wrong_comment(draft: &Draft, chance: &mut Chance) -> Option<Splice> { wrong_text(draft, chance, Spot::Comment) }
+fn wrong_string(draft: &Draft, chance: &mut Chance) -> Option<Splice> { wrong_text(draft, chance, Spot::String) }
 
 /// `bytes` in place of some piece.
 fn instead(draft: &Draft, chance: &mut Chance, bytes: &[u8], fits: impl Fn(&Spot) -> bool) -> Option<Splice> {

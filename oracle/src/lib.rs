@@ -7,6 +7,7 @@ pub mod faults;
 pub mod limits;
 pub mod returns;
 pub mod shrink;
+pub mod strings;
 pub mod task;
 pub mod text;
 pub mod words;

@@ -56,12 +56,18 @@ const NAMED: [(&str, &str); 15] = [
 ];
 
 /// A file for each counted list, with a count that its section cannot hold.
-const COUNTED: [(&str, &str); 13] = [
+const COUNTED: [(&str, &str); 14] = [
     ("constructors", "d: 'D #0 #65535 'c #0"), ("fields", "d: 'D #0 #1 'c #65535 'f 0"), ("inputs", "f: 'f #0 #65535 0 0 0"),
     ("arguments", "f: 'f #0 #1 0 0 1 #65535 'x E"), ("sorts", "v: 'k #65535 0"), ("sort-arguments", "k: 'c 9 #65535 0"),
     ("members", "h: 0 1 13 #65535 E"), ("app-arguments", "h: 0 1 17 0 E #65535 E"), ("quantified", "h: 0 1 20 0 #65535 'x 0 E"),
     ("kvar-arguments", "h: 0 0 'k #65535 E"), ("constraints", "h: 1 #65535 0 K"), ("guards", "h: 2 'x 0 #65535 P 0 K"),
-    ("comment", "c: #65535 97"),
+    ("comment", "c: #65535 97"), ("string", "h: 0 1 3 #65535 34"),
+];
+
+/// Strings with quotation marks: one alone, two, one between two bytes, at both ends, in front of a byte that 4 covers, and around a command.
+const QUOTED: [(&str, u8, &str); 6] = [
+    ("quote", 0, "\"\""), ("quotes", 0, "\"\"\""), ("between", 0, "\"a\"b"), ("ends", 0, "\"\"a\""), ("line-feed", 4, "#2 34 10"),
+    ("command", 0, "\"a\"))(check-sat)(\"b"),
 ];
 
 /// What the source cannot write, arguments other than inputs and repeated binders, in places that are written and in others; and one file
@@ -151,6 +157,13 @@ impl Limits {
         self.words("count-3000-constants", 0, &format!("k: {}", "'c 0 ".repeat(3_000)));
     }
 
+    fn strings(&mut self) {
+        QUOTED.iter().for_each(|(name, due, text)| self.words(&format!("string-{name}"), *due, &format!("h: 0 1 3 {text}")));
+        for (many, due) in [(59_967, 0), (59_968, 1)] {
+            self.words(&format!("string-{many}-quotes"), due, &format!("h: 0 1 3 \"{}", "\"".repeat(many)));
+        }
+    }
+
     fn sizes(&mut self) {
         for (name, rest) in [("comment", "h: C"), ("s", S), ("full", FULL)] {
             self.words(&format!("size-60000-{name}"), 0, &padded(LONGEST_FILE, rest));
@@ -184,6 +197,7 @@ pub fn limits() -> Vec<(String, Case)> {
     limits.levels();
     limits.names();
     limits.numbers();
+    limits.strings();
     limits.sizes();
     limits.offsets();
     limits.0

@@ -152,11 +152,10 @@ impl<'a> Reader<'a> {
         Ok(characters(name))
     }
 
-    /// A text without the byte `never`.
-    fn text(&mut self, never: Option<u8>) -> Answer<&'a str> {
+    fn text(&mut self) -> Answer<&'a str> {
         let many = self.u16()? as usize;
         let text = self.take(many)?;
-        self.note(text.iter().any(|byte| !(b' '..=b'~').contains(byte) || Some(*byte) == never), 4);
+        self.note(text.iter().any(|byte| !(b' '..=b'~').contains(byte)), 4);
         Ok(characters(text))
     }
 
@@ -210,7 +209,7 @@ impl<'a> Reader<'a> {
             0 => Expr::Numeral(self.u128()?),
             1 => Expr::Boolean(self.code(2)? == 1),
             2 => Expr::Real(self.u32()?),
-            3 => Expr::String(self.text(Some(b'"'))?),
+            3 => Expr::String(self.text()?),
             4 => Expr::BitVec(self.u128()?, self.u32()?),
             5 => Expr::Var(self.name()?),
             6 => self.noted(WEAK, Expr::WKVar),
@@ -286,7 +285,7 @@ impl<'a> Reader<'a> {
     }
 
     fn task(&mut self, offsets: &[usize; 6]) -> Answer<Task<'a>> {
-        let comments = self.items(offsets[1], |r| r.text(None))?;
+        let comments = self.items(offsets[1], Self::text)?;
         let datatypes = self.items(offsets[2], Self::datatype)?;
         let constants = self.items(offsets[3], |r| r.binder(1))?;
         let functions = self.items(offsets[4], Self::function)?;

@@ -31,6 +31,15 @@ pub fn line(answer: &Answer<Rendering>) -> String {
 
 fn number(out: &mut String, number: impl Display) { write!(out, "{number}").expect("a String takes every text") }
 
+/// A string between quotation marks, each quotation mark of its own twice (W-203).
+fn write_string(out: &mut String, text: &str) {
+    for (i, run) in text.split('"').enumerate() {
+        out.push_str(if i == 0 { "\"" } else { "\"\"" });
+        out.push_str(run);
+    }
+    out.push('"');
+}
+
 /// Each item with a space before it.
 fn spaced<T>(out: &mut String, items: impl IntoIterator<Item = T>, mut write_item: impl FnMut(&mut String, T)) {
     for item in items {
@@ -193,11 +202,7 @@ impl<'a> SmtEncoder<'a> {
             Expr::Numeral(value) => number(out, value),
             Expr::Boolean(value) => out.push_str(if *value { "true" } else { "false" }),
             Expr::Real(value) => number(out, value),
-            Expr::String(text) => {
-                out.push('"');
-                out.push_str(text);
-                out.push('"');
-            }
+            Expr::String(text) => write_string(out, text),
             Expr::BitVec(value, width) => write!(out, "(_ bv{value} {width})").expect("a String takes every text"),
             Expr::Var(name) => out.push_str(name),
             Expr::WKVar => panic!("a weak KVar"),

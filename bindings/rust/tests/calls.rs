@@ -82,6 +82,17 @@ fn a_line_break_in_a_comment_is_refused() {
     assert_eq!(survey(&file).map(|sizes| sizes.parts), Ok(3));
 }
 
+#[test]
+fn a_quotation_mark_in_a_string_is_written_twice() {
+    let mut file = file_with(0, &[], b"\0\x01\x03\x03\0a\"b");
+    let mut buf = [FILLED; 512];
+    let length = part(&file, 2, &mut buf).unwrap();
+    assert_eq!(&buf[..length], b"(assert (=> (not \"a\"\"b\") false))\n");
+    assert_eq!(survey(&file).map(|sizes| sizes.longest), Ok(length));
+    file[6] = b'\n';
+    assert_eq!(number(survey(&file)), Some(4));
+}
+
 /// 254 ForAlls inside each other, the most that there may be: a test's thread has 2 MB of stack.
 #[test]
 fn the_deepest_task_fits_a_thread() {

@@ -14,13 +14,12 @@ use Rattle.smtlib.specs.Lexicon.{bytes, all, visible, reservedWords}
 use Rattle.smtlib.specs.Read.{Sexps, Command, Reading}
 use Rattle.smtlib.specs.Compose.{Says, Follows, Writes}
 use Rattle.smtlib.specs.Theorems.{Composition}
-use Rattle.smtlib.proofs.Bools.{and-left, all-map}
 use Rattle.smtlib.proofs.Compose.{composition}
 use Rattle.smtlib.proofs.Cut.{cuts}
 use Rattle.task.specs.declared.Fault.{Fault}
 use Rattle.task.specs.declared.Fault.the-variants.{Sound}
 use Rattle.task.specs.Ast.{Binder, Pred, Constraint, Constraints, FunDef, FunBody, Task}
-use Rattle.task.specs.Fault.{lower, each, shown, textFault, commentFault, binderFault, predFault, constraintFault, constraintsFault, taskFault}
+use Rattle.task.specs.Fault.{lower, each, textFault, binderFault, predFault, constraintFault, constraintsFault, taskFault}
 use Rattle.task.specs.Laws.{SoundParts}
 use Rattle.task.specs.Task.{literallyTrue, declarations}
 use Rattle.task.proofs.Judging.{sound-parts}
@@ -176,22 +175,21 @@ section f [] h = record { written = writes-nothing }
 section f (x ∷ xs) h = record { written = writes-more (f x (none-left _ _ h)) (section f xs (none-right _ _ h) .written) }
 
 -- comments are no commands
-comments-write : (cs : List (List ℕ)) → each commentFault cs ≡ Sound → Writes (join (map write-comment cs)) []
+comments-write : (cs : List (List ℕ)) → each textFault cs ≡ Sound → Writes (join (map write-comment cs)) []
 unfolding textFault
 comments-write [] h = writes-nothing
 comments-write (c ∷ cs) h =
-    let g : T (all (shown true) c) = text-holds (all (shown true) c) (none-left _ _ h) in
     writes-more
-    (writes-comment (bytes "; " ++ c) (all-map (shown true) visible (λ b k. and-left (visible b) _ k) c g))
+    (writes-comment (bytes "; " ++ c) (text-holds (all visible c) (none-left _ _ h)))
     (comments-write cs (none-right _ _ h))
 
 -- the comments and the blank line, if there are any
-heading-writes : (cs : List (List ℕ)) → each commentFault cs ≡ Sound → Writes (write-comments cs) []
+heading-writes : (cs : List (List ℕ)) → each textFault cs ≡ Sound → Writes (write-comments cs) []
 heading-writes [] h = writes-nothing
 heading-writes (c ∷ cs) h = writes-more (comments-write (c ∷ cs) h) writes-blank
 
 -- the first part is the first command
-opening-writes : (cs : List (List ℕ)) → each commentFault cs ≡ Sound
+opening-writes : (cs : List (List ℕ)) → each textFault cs ≡ Sound
     → Writes (opening cs) (row (reserved "set-logic" ∷ symbol "HORN" ∷ []) ∷ [])
 unfolding opening reservedWords
 opening-writes cs h = writes-more (writes-more (command (kept "set-logic" tt ∣ word "HORN" tt ∣ end)) writes-blank) (heading-writes cs h)

@@ -15,7 +15,7 @@ use Rattle.task.specs.Decode.{raw, items, sortForms, decSort, binRels, thyFuncs
 use Rattle.task.specs.Fault.{lower, nameFault, textFault, sortFault, sortsFault, binderFault, needsSort, thyFuncFault, exprFault, exprsFault, predFault, shadowFault, constraintFault, constraintsFault, dataCtorFault, emptyFault, datatypeFault, arityFault, bodyFault, functionFault, kvarFault, taskFault}
 use Rattle.task.specs.Task.{bound, framed, decoded, judged, taskOf, literallyTrue}
 use Rattle.task.specs.Returns.{every}
-use Rattle.smt_text.specs.Text.{write-name, write-sort, write-binder, write-expr, write-pred, write-ctor, write-datatype-decl, write-const-decl, write-kvar-decl}
+use Rattle.smt_text.specs.Text.{write-name, write-string, write-sort, write-binder, write-expr, write-pred, write-ctor, write-datatype-decl, write-const-decl, write-kvar-decl}
 use Rattle.horn_text.specs.Clauses.{flatten-constraint}
 use Rattle.horn_text.specs.Script.{write-implication, write-assert, opening, closing}
 use Rattle.horn_text.specs.Answers.{surveyAnswer, partAnswer, partBuffer, scriptAnswer, scriptBuffer}
@@ -23,7 +23,7 @@ use Rattle.horn_text.specs.Table.{caseS, Table}
 use Rattle.horn_text.specs.Numbers.{placeOf, Numbers}
 
 pub table : Table
-unfolding caseS surveyAnswer partAnswer partBuffer scriptAnswer scriptBuffer taskOf framed bound decoded judged raw items sortForms decSort binRels exprForms decExpr decPred decConstraint lower nameFault sortFault binderFault exprFault predFault shadowFault constraintFault dataCtorFault emptyFault datatypeFault kvarFault taskFault reservedWords literallyTrue flatten-constraint decimal write-name write-sort write-binder write-expr write-pred write-ctor write-datatype-decl write-const-decl write-kvar-decl write-implication write-assert opening closing
+unfolding caseS surveyAnswer partAnswer partBuffer scriptAnswer scriptBuffer taskOf framed bound decoded judged raw items sortForms decSort binRels exprForms decExpr decPred decConstraint lower nameFault textFault sortFault binderFault exprFault predFault shadowFault constraintFault dataCtorFault emptyFault datatypeFault kvarFault taskFault reservedWords literallyTrue flatten-constraint decimal write-name write-string write-sort write-binder write-expr write-pred write-ctor write-datatype-decl write-const-decl write-kvar-decl write-implication write-assert opening closing
 table = record {
   s-length = refl;
   s-survey = refl;
@@ -35,6 +35,7 @@ table = record {
   empty-and = refl;
   empty-or = refl;
   unguarded = refl;
+  quoted = refl;
   guards-0 = refl;
   guards-1 = refl;
   guards-2 = refl;

@@ -1,4 +1,4 @@
--- Document 01's table ("To the testers"): what the calls answer and leave in the buffer, at the files that it names.
+-- Document 01's table ("To the testers"): what the calls answer and leave in the buffer, at the files that it names; and a string of W-203.
 use Prim.Native.Nat.{ℕ, _+_}
 use Prim.Native.String.{String}
 use mathlib.Core.Path.{_≡_}
@@ -61,6 +61,10 @@ named x = length (bytes x) ∷ bytes x
 -- the expression Var
 abbrev pub var : String → List ℕ
 var x = 5 ∷ named x
+
+-- the expression String
+abbrev pub string : String → List ℕ
+string t = 3 ∷ length (bytes t) ∷ 0 ∷ bytes t
 
 -- an expression as a predicate
 abbrev pub exprPred : List ℕ → List ℕ
@@ -138,6 +142,9 @@ pub record Table : Type 0 where
   -- an expression head without guards
   pub unguarded : partCall (constraintOnly (head (exprPred (var "p")))) 2 (zeros 28)
       ≡ (values (28 ∷ []), line (bytes "(assert (=> (not p) false))"))
+  -- W-203: a string with a quotation mark, as such a head
+  pub quoted : partCall (constraintOnly (head (exprPred (string "a\"b")))) 2 (zeros 33)
+      ≡ (values (33 ∷ []), line (bytes "(assert (=> (not \"a\"\"b\") false))"))
   -- a KVar head without guards
   pub guards-0 : partCall (constraintOnly (kUnder [])) 2 (zeros 44)
       ≡ (values (44 ∷ []), line (bytes "(assert (forall ((x Int)) (=> true (k x))))"))

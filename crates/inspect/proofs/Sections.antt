@@ -12,7 +12,7 @@ use borrow.Author.Tests.{le-leb, lt-leb}
 use Rattle.task.specs.declared.Fault.{Fault}
 use Rattle.task.specs.declared.Fault.the-variants.{Sound}
 use Rattle.task.specs.Decode.{Res, got, refuse, bind, Decoder, items, section, comment, datatype, constant, function, kvar}
-use Rattle.task.specs.Fault.{lower, each, commentFault, datatypeFault, binderFault, functionFault, kvarFault}
+use Rattle.task.specs.Fault.{lower, each, textFault, datatypeFault, binderFault, functionFault, kvarFault}
 use Rattle.task.specs.Covers.{CoversSome}
 use Rattle.task.proofs.Judging.{lower-sound, sound-lower, lower-assoc}
 use Rattle.task.proofs.Pieces.{each-covers}
@@ -113,7 +113,7 @@ ahead fault d s p q f c e =
 
 pub item-ahead : (k : Section) (s : List ℕ) (p q : ℕ) (f : Fault) (v : Walked) → v ≡ itemWalk k s p → v ≡ walked-is.Next q f → p < q
 unfolding itemWalk
-item-ahead Comments s p q f v e e' = ahead commentFault comment s p q f (each-covers .comments) (sym e' ∙ e)
+item-ahead Comments s p q f v e e' = ahead textFault comment s p q f (each-covers .comments) (sym e' ∙ e)
 item-ahead Datatypes s p q f v e e' = ahead datatypeFault datatype s p q f (each-covers .datatypes) (sym e' ∙ e)
 item-ahead Constants s p q f v e e' = ahead binderFault constant s p q f (each-covers .constants) (sym e' ∙ e)
 item-ahead Functions s p q f v e e' = ahead functionFault function s p q f (each-covers .functions) (sym e' ∙ e)

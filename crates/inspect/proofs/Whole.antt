@@ -14,7 +14,7 @@ use Rattle.item_check.specs.declared.Section.{Section}
 use Rattle.task.specs.declared.Fault.{Fault}
 use Rattle.task.specs.Ast.{DataDecl, Binder, FunDef, KVarDecl, Constraint, Task}
 use Rattle.task.specs.Decode.{Res, got, refuse, bind, section, comment, datatype, constant, function, kvar, decConstraint, deepest}
-use Rattle.task.specs.Fault.{lower, each, refusalOf, commentFault, datatypeFault, binderFault, functionFault, kvarFault, constraintFault, taskFault}
+use Rattle.task.specs.Fault.{lower, each, refusalOf, textFault, datatypeFault, binderFault, functionFault, kvarFault, constraintFault, taskFault}
 use Rattle.task.specs.Task.{bound, framed, within, decoded, judged, taskOf, headsOf}
 use Rattle.task.proofs.Judging.{lower-assoc}
 use Rattle.constraint_check.specs.declared.Counted.{Counted}
@@ -44,7 +44,7 @@ taken KVars x = x
 -- the walk of a section is that of what is decoded there; comments are not counted
 section-is : (k : Section) (s : List ℕ) (at : ℕ) → sectionOf k s at ≡ taken k (walkItems (length s) (itemWalk k s) (length s) at)
 unfolding sectionOf itemWalk
-section-is Comments s at = ap uncounted (listed-walks commentFault comment s (length s) at)
+section-is Comments s at = ap uncounted (listed-walks textFault comment s (length s) at)
 section-is Datatypes s at = listed-walks datatypeFault datatype s (length s) at
 section-is Constants s at = listed-walks binderFault constant s (length s) at
 section-is Functions s at = listed-walks functionFault function s (length s) at
@@ -132,7 +132,7 @@ module _ (file : List ℕ) where
 
   parts : Res (List (List ℕ)) → Res (List DataDecl) → Res (List Binder) → Res (List FunDef) → Res (List KVarDecl) → Listed
   parts x0 x1 x2 x3 x4 =
-      join (uncounted (listed commentFault x0)) (join (listed datatypeFault x1) (join (listed binderFault x2) (join (listed functionFault x3) (listed kvarFault x4))))
+      join (uncounted (listed textFault x0)) (join (listed datatypeFault x1) (join (listed binderFault x2) (join (listed functionFault x3) (listed kvarFault x4))))
 
   regroup : (a b c d e f : Fault) → lower a (lower b (lower c (lower d (lower e f)))) ≡ lower (lower a (lower b (lower c (lower d e)))) f
   regroup a b c d e f =
@@ -165,12 +165,12 @@ module _ (file : List ℕ) where
       whole = record { comments = a; datatypes = b; constants = c; functions = d; kvars = e; constraint = f }
 
       fault : Fault
-      fault = lower (lower (each commentFault a) (lower (each datatypeFault b) (lower (each binderFault c) (lower (each functionFault d) (each kvarFault e))))) (constraintFault [] f)
+      fault = lower (lower (each textFault a) (lower (each datatypeFault b) (lower (each binderFault c) (lower (each functionFault d) (each kvarFault e))))) (constraintFault [] f)
 
       go : (t : Bool) → inspectedOf file (bind (cond t (got whole v) (refuse 2)) judged)
           ≡ cond t (judge (boundsOf file) (0 + (length b + (length c + (length d + length e)))) (headsOf f) fault) (inspected-is.Refused 2)
       go true = judges whole v (0 + (length b + (length c + (length d + length e)))) (headsOf f) fault
-          (regroup (each commentFault a) (each datatypeFault b) (each binderFault c) (each functionFault d) (each kvarFault e) (constraintFault [] f))
+          (regroup (each textFault a) (each datatypeFault b) (each binderFault c) (each functionFault d) (each kvarFault e) (constraintFault [] f))
           (sym (count (length b) (length c) (length d) (length e))) refl
       go false = refl
 

@@ -7,7 +7,7 @@ use lib.ListN.{length, take}
 use Rattle.task.specs.declared.Fault.{Fault}
 use Rattle.task.specs.declared.Fault.the-variants.{Sound}
 use Rattle.task.specs.Decode.{Res, got, refuse, section, comment, datatype, constant, function, kvar}
-use Rattle.task.specs.Fault.{lower, each, refusalOf, commentFault, datatypeFault, binderFault, functionFault, kvarFault}
+use Rattle.task.specs.Fault.{lower, each, refusalOf, textFault, datatypeFault, binderFault, functionFault, kvarFault}
 use Rattle.task.specs.Task.{framed}
 use Rattle.task_check.specs.declared.Walked.{Walked}
 use Rattle.task_check.specs.declared.Walked.the-variants as walked-is
@@ -61,7 +61,7 @@ uncounted (listed-is.Refused k) = listed-is.Refused k
 
 -- the items of a section
 unfoldable pub sectionOf : Section → List ℕ → ℕ → Listed
-sectionOf Comments s at = uncounted (listed commentFault (section comment s at))
+sectionOf Comments s at = uncounted (listed textFault (section comment s at))
 sectionOf Datatypes s at = listed datatypeFault (section datatype s at)
 sectionOf Constants s at = listed binderFault (section constant s at)
 sectionOf Functions s at = listed functionFault (section function s at)

@@ -5,7 +5,7 @@ use mathlib.Core.List.{List}
 use Rattle.task.specs.declared.Fault.{Fault}
 use Rattle.task.specs.Ast.{Sorts, FunDef}
 use Rattle.task.specs.Decode.{Decoder, give, _▹_, counted, decSort, deepest, flag, body, comment, datatype, constant, function, kvar}
-use Rattle.task.specs.Fault.{lower, commentFault, datatypeFault, binderFault, sortFault, sortsFault, sortsNumber, bodyFault, functionFault, kvarFault}
+use Rattle.task.specs.Fault.{lower, textFault, datatypeFault, binderFault, sortFault, sortsFault, sortsNumber, bodyFault, functionFault, kvarFault}
 use Rattle.task_check.specs.declared.Walked.{Walked}
 use Rattle.task_check.specs.Walk.{walked}
 use Rattle.item_check.specs.declared.Section.{Section}
@@ -23,7 +23,7 @@ signatureFault f = lower (sortsFault (f .inputs)) (lower (sortFault false (f .ou
 
 -- an item of a section
 unfoldable pub itemWalk : Section → List ℕ → ℕ → Walked
-itemWalk Comments s at = walked commentFault (comment s at)
+itemWalk Comments s at = walked textFault (comment s at)
 itemWalk Datatypes s at = walked datatypeFault (datatype s at)
 itemWalk Constants s at = walked binderFault (constant s at)
 itemWalk Functions s at = walked functionFault (function s at)

@@ -11,7 +11,7 @@ ghost use mathlib.Core.List.{[], _∷_};
 ghost use Prim.Native.Nat.{_<_};
 ghost use Rattle.smtlib.specs.Lexicon.{isOne};
 ghost use Rattle.task.specs.Decode.{many, name, comment, dataCtor, datatype, body, function, kvar};
-ghost use Rattle.task.specs.Fault.{each, nameFault, commentFault, dataCtorFault, emptyFault, datatypeFault, arityFault, bodyFault, functionFault, kvarFault};
+ghost use Rattle.task.specs.Fault.{each, nameFault, textFault, dataCtorFault, emptyFault, datatypeFault, arityFault, bodyFault, functionFault, kvarFault};
 ghost use Rattle.task.specs.Task.{declaredBy, isDatatype, isCtor};
 ghost use Rattle.task_check.specs.Walk.{walked};
 ghost use Rattle.item_check.specs.Items.{itemWalk, signature, signatureFault};
@@ -28,13 +28,13 @@ pub enum Section {
 
 // A comment.
 fn check_comment(s: &[u8], at: usize) -> Walked
-    ensures { λ r. ⌜ r ≡ walked commentFault (comment (now (s .entry)) at) ⌝ }
+    ensures { λ r. ⌜ r ≡ walked textFault (comment (now (s .entry)) at) ⌝ }
 {
     let text = task::read_text(s, at);
     let SpanRead::At(x, p) = text else {
         return Walked::Refused(2);
     };
-    Walked::Next(p, task_check::text_fault(s, x, true))
+    Walked::Next(p, task_check::text_fault(s, x))
 }
 
 // A constructor: a name and counted fields.

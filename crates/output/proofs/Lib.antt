@@ -1,4 +1,5 @@
 pub mod Sent
 pub mod Decimals
+pub mod Quotes
 pub mod Listing
 pub mod Sending

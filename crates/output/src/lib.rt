@@ -2,13 +2,17 @@
 use task::Span;
 use task::ThyFunc;
 ghost use mathlib.Core.Path.{_≡_};
+ghost use mathlib.Core.List.{[], _∷_};
 ghost use Prim.Native.Nat.{_+_, _-_, _*_, _/_, _%_, _^_, _<_, min};
 ghost use lib.Dec.{ltb};
 ghost use lib.ListN.{length, drop};
 ghost use lib.Seq.{sets};
+ghost use Rattle.smtlib.specs.Lexicon.{any};
+ghost use Rattle.smtlib.specs.Read.{doubled as doubledOf};
 ghost use Rattle.smtlib.specs.Compose.{decimal as decimalOf};
 ghost use Rattle.task.specs.Node.{bytesOf};
 ghost use Rattle.smt_text.specs.Text.{write-thy-func, write-name, write-string};
+ghost use Rattle.smt_text.specs.Table.{isQuote};
 ghost use Rattle.output.specs.Emit.{output, most, emit, emits};
 ghost use Rattle.output.specs.Names.{nameAt, placeOf, lengthOf, entryText, entryOf};
 
@@ -231,6 +235,21 @@ fn digits_of(lo: u64, hi: u64) -> Digits
     Digits { bytes, start: i }
 }
 
+// Whether a text has a quotation mark. Every byte is looked at: a loop with no other way out is compiled to look at many at once.
+fn has_quote(text: &[u8]) -> bool
+    ensures { λ r. ⌜ r ≡ any isQuote (now (text .entry)) ⌝ }
+{
+    let mut found = false;
+    let mut i: usize = 0;
+    while i < text.len() {
+        if text[i] == b'"' {
+            found = true;
+        }
+        i += 1;
+    }
+    found
+}
+
 impl Out {
     // Nothing was sent yet.
     pub fn new() -> Self
@@ -286,12 +305,39 @@ impl Out {
         self.bytes(buf, task::bytes_of(s, x))
     }
 
+    // Sends a byte of a string: a quotation mark twice.
+    fn string_byte(self, buf: &mut [u8], b: u8) -> Self
+        ensures { λ r. ⌜ output (now (buf .exit)) (r .len) ≡ emits (output (now (buf .entry)) (self .len)) (doubledOf (b ∷ [])) ⌝ }
+    {
+        let sent = self.byte(buf, b);
+        if b == b'"' {
+            return sent.byte(buf, b);
+        }
+        sent
+    }
+
+    // Sends the bytes of a string, each quotation mark twice. Where there is none, they are sent at once.
+    fn doubled(self, buf: &mut [u8], text: &[u8]) -> Self
+        ensures { λ r. ⌜ output (now (buf .exit)) (r .len) ≡ emits (output (now (buf .entry)) (self .len)) (doubledOf (now (text .entry))) ⌝ }
+    {
+        if !has_quote(text) {
+            return self.bytes(buf, text);
+        }
+        let mut sent = self;
+        let mut i: usize = 0;
+        while i < text.len() {
+            sent = sent.string_byte(buf, text[i]);
+            i += 1;
+        }
+        sent
+    }
+
     // Sends a string that stands in a section.
     pub fn string(self, buf: &mut [u8], s: &[u8], x: Span) -> Self
         ensures { λ r. ⌜ output (now (buf .exit)) (r .len) ≡ emits (output (now (buf .entry)) (self .len)) (write-string (bytesOf (now (s .entry)) x)) ⌝ }
     {
         let opened = self.byte(buf, b'"');
-        let sent = opened.bytes(buf, task::bytes_of(s, x));
+        let sent = opened.doubled(buf, task::bytes_of(s, x));
         sent.byte(buf, b'"')
     }
 

@@ -13,7 +13,7 @@ use Rattle.task.specs.declared.SpanRead.{SpanRead}
 use Rattle.task.specs.declared.SpanRead.the-variants as span-is
 use Rattle.task.specs.Covers.{CoversSome}
 use Rattle.task.specs.Decode.{Res, got, bind, comment, datatype, constant, function, kvar, items, section}
-use Rattle.task.specs.Fault.{commentFault, datatypeFault, binderFault, functionFault, kvarFault}
+use Rattle.task.specs.Fault.{textFault, datatypeFault, binderFault, functionFault, kvarFault}
 use Rattle.task.specs.Node.{bytesOf, spanOf}
 use Rattle.task.proofs.Reading.{bind-got, got-refuse}
 use Rattle.task.proofs.Pieces.{each-covers}
@@ -140,7 +140,7 @@ none-there fault text x v k t z e e' g =
 module _ (enc : Encoder) (s : List ℕ) (at : ℕ) (v : Walked) (t : List ℕ) (z : ℕ) where
   item-ends : (i : Section) (q : ℕ) (f : Fault) → v ≡ itemWalk i s at → v ≡ walked-is.Next q f → itemText enc i s at ≡ got t z → q ≡ z
   unfolding itemWalk itemText
-  item-ends Comments q f e e' g = ends commentFault write-comment (comment s at) v q f t z e e' g
+  item-ends Comments q f e e' g = ends textFault write-comment (comment s at) v q f t z e e' g
   item-ends Datatypes q f e e' g = ends datatypeFault (write-datatype-decl enc) (datatype s at) v q f t z e e' g
   item-ends Constants q f e e' g = ends binderFault (write-const-decl enc) (constant s at) v q f t z e e' g
   item-ends Functions q f e e' g = ends functionFault (write-fun-def enc) (function s at) v q f t z e e' g
@@ -148,7 +148,7 @@ module _ (enc : Encoder) (s : List ℕ) (at : ℕ) (v : Walked) (t : List ℕ) (
 
   no-item : {B : Type 0} (i : Section) (k : ℕ) → v ≡ itemWalk i s at → v ≡ walked-is.Refused k → itemText enc i s at ≡ got t z → B
   unfolding itemWalk itemText
-  no-item Comments k e e' g = none-there commentFault write-comment (comment s at) v k t z e e' g
+  no-item Comments k e e' g = none-there textFault write-comment (comment s at) v k t z e e' g
   no-item Datatypes k e e' g = none-there datatypeFault (write-datatype-decl enc) (datatype s at) v k t z e e' g
   no-item Constants k e e' g = none-there binderFault (write-const-decl enc) (constant s at) v k t z e e' g
   no-item Functions k e e' g = none-there functionFault (write-fun-def enc) (function s at) v k t z e e' g

@@ -11,6 +11,7 @@ use lib.Dec.{T, leb, ltb, eqb, lit≤}
 use lib.ListN.{length, take, drop, getD, length-append, length-take}
 use lib.Seq.{getD-drop}
 use Rattle.smtlib.specs.Lexicon.{bytes}
+use Rattle.smtlib.specs.Read.{doubled}
 use Rattle.smtlib.specs.Compose.{digits, decimal}
 use Rattle.smtlib.proofs.Decimal.{decimal-digits}
 use Rattle.task.specs.declared.BinRel.{BinRel}
@@ -59,7 +60,7 @@ _⟫_ {d = d} {k = k} f g = record {
       omega arith;
 }
 
-raws : {c : ℕ} (n : ℕ) → Costs c (λ w. c + length w) (raw n)
+raws : {c : ℕ} (n : ℕ) → Costs c (λ w. c + 2 * length w) (raw n)
 raws {c} n = record {
   costs = λ s b at w p e.
       let f = raw-got n s at w p e in
@@ -108,11 +109,19 @@ any-number k = numbers k (λ n l. omega arith)
 
 -- NAMES, STRINGS, ROWS
 
-pub names : Costs 0 (λ x. 16 + length x) name
+pub names : Costs 0 (λ x. 16 + 2 * length x) name
 names = any-number 1 ⟫ λ n. either-way (eqb n 0) refused (raws n)
 
-pub texts : Costs 0 (λ t. 32 + length t) text
+pub texts : Costs 0 (λ t. 32 + 2 * length t) text
 texts = any-number 2 ⟫ λ n. raws n
+
+-- a byte of a string gives at most two
+doubled-length : (t : List ℕ) → length (doubled t) ≤ 2 * length t
+doubled-length [] = omega arith
+doubled-length (b ∷ t) =
+    let h = doubled-length t in
+    let l = cond-length (eqb b 34) (b ∷ []) [] 1 (omega arith) (omega arith) in
+    simp length-append (omega arith)
 
 module _ {A B : Type 0} {size' : A → ℕ} {d : Decoder A} (size : B → ℕ) (end : B) (more : A → B → B) where
   -- a count and a row, to whose size each piece adds no more than its own
@@ -306,7 +315,7 @@ module _ (enc : Encoder) where
       (decimals 16 38 tt tt ⟫ λ n. free (omega arith)) ∣
       (flags ⟫ λ b. free (omega arith)) ∣
       (decimals 4 9 tt tt ⟫ λ n. free (omega arith)) ∣
-      (texts ⟫ λ t. free (simp length-append (omega arith))) ∣
+      (texts ⟫ λ t. free (simp length-append (omega (arith, doubled-length t)))) ∣
       (decimals 16 38 tt tt ⟫ λ n. decimals 4 9 tt tt ⟫ λ w. free (simp length-append (omega arith))) ∣
       (names ⟫ λ x. free (omega arith)) ∣
       fixed tt ∣

@@ -8,9 +8,9 @@ use mathlib.Core.Option.{Option, none, some}
 use lib.Dec.{T, eqb}
 use Rattle.smtlib.specs.Lexicon.{Kind, bytes, all, digit, letter, symbolByte, visible, isNumeral, isSymbol, isOf, reservedWords}
 use Rattle.smtlib.specs.Read.{Token, Spells, as-word, as-string, as-quoted, Sexps}
-use Rattle.smtlib.specs.Compose.{Says, Follows, Writes, line, noQuote, decimal}
+use Rattle.smtlib.specs.Compose.{Says, Follows, Writes, line, decimal}
 use Rattle.smtlib.specs.Theorems.{Composition}
-use Rattle.smtlib.proofs.Bools.{clash, and-left, and-right, both, or-right, all-map, is-true}
+use Rattle.smtlib.proofs.Bools.{clash, and-left, both, or-right, all-map, is-true}
 use Rattle.smtlib.proofs.Compose.{composition, string-spells}
 use Rattle.smtlib.proofs.Decimal.{decimal-spells}
 use Rattle.task.specs.declared.BinOp.{BinOp}
@@ -23,7 +23,7 @@ use Rattle.task.specs.declared.Quantifier.the-variants as quantifier
 use Rattle.task.specs.declared.ThyFunc.{ThyFunc}
 use Rattle.task.specs.declared.ThyFunc.the-variants.{StrLen, StrConcat, StrPrefixOf, StrSuffixOf, StrContains, BvZeroExtend, BvSignExtend, IntToBv8, Bv8ToInt, IntToBv32, Bv32ToInt, IntToBv64, Bv64ToInt, IntToBv128, Bv128ToInt, BvUle, BvSle, BvUge, BvSge, BvUdiv, BvSdiv, BvSrem, BvUrem, BvLshr, BvAshr, BvAnd, BvOr, BvXor, BvNot, BvAdd, BvNeg, BvSub, BvMul, BvShl, BvUgt, BvSgt, BvUlt, BvSlt, SetEmpty, SetSng, SetCup, SetCap, SetDif, SetSub, SetMem, MapDefault, MapSelect, MapStore}
 use Rattle.task.specs.Ast.{SortCtor, Sort, Sorts, Binder, Constant, Expr, Exprs, Pred, DataCtor, DataDecl, FunBody, FunDef, KVarDecl}
-use Rattle.task.specs.Fault.{unless, each, nameFault, shown, textFault, stringFault, ctorFault, sortFault, sortsFault, binderFault, constantFault, givenFault, exprFault, exprsFault, predFault, dataCtorFault, datatypeFault, bodyFault, functionFault, kvarFault}
+use Rattle.task.specs.Fault.{unless, each, nameFault, textFault, ctorFault, sortFault, sortsFault, binderFault, constantFault, givenFault, exprFault, exprsFault, predFault, dataCtorFault, datatypeFault, bodyFault, functionFault, kvarFault}
 use Rattle.task.specs.Laws.{SoundParts}
 use Rattle.task.proofs.Judging.{sound-parts}
 use Rattle.smt_text.specs.Encoder.{Encoder, isOpaque, isQualified, zip}
@@ -119,13 +119,9 @@ name-says : (x : List ℕ) → nameFault x ≡ Sound → Says (write-name x) (na
 unfolding nameFault write-name
 name-says x h = named x (text-holds (isSymbol x) h)
 
-string-says : (t : List ℕ) → stringFault t ≡ Sound → Says (write-string t) (stringSexp t)
+string-says : (t : List ℕ) → textFault t ≡ Sound → Says (write-string t) (stringSexp t)
 unfolding textFault write-string
-string-says t h =
-    let g : T (all (shown false) t) = text-holds (all (shown false) t) h in
-    says-token (string-spells t
-    (all-map (shown false) visible (λ b k. and-left (visible b) _ k) t g)
-    (all-map (shown false) noQuote (λ b k. and-right (visible b) _ k) t g))
+string-says t h = says-token (string-spells t (text-holds (all visible t) h))
 
 -- THEORY FUNCTIONS
 

@@ -1,13 +1,17 @@
--- The texts of the theory functions, computed: `thy-func-texts`.
-use mathlib.Core.Path.{_≡_, refl}
-use mathlib.Core.List.{append-nil, map}
-use Rattle.smtlib.specs.Lexicon.{bytes}
-use Rattle.smtlib.specs.Compose.{decimal}
+-- The texts of the theory functions and of strings: `thy-func-texts` and `string-texts`.
+use mathlib.Core.Path.{_≡_, refl, ap, _∙_}
+use mathlib.Core.Bool.{Bool, true, false, cond, _||_}
+use mathlib.Core.List.{List, [], _∷_, _++_, append-nil, append-assoc, map}
+use Prim.Native.Nat.{ℕ}
+use Rattle.smtlib.specs.Lexicon.{bytes, any}
+use Rattle.smtlib.specs.Read.{doubled}
+use Rattle.smtlib.specs.Compose.{quotes, decimal}
+use Rattle.smtlib.proofs.Bools.{clash}
 use Rattle.task.specs.Decode.{raw, thyFuncs}
 use Rattle.task.specs.Fault.{needsSort}
 use Rattle.smt_text.specs.Theory.{thyFuncName}
-use Rattle.smt_text.specs.Text.{write-thy-func, write-sort, write-application-head, write-expr}
-use Rattle.smt_text.specs.Table.{sourceTexts, textsFrom, ThyFuncTexts}
+use Rattle.smt_text.specs.Text.{write-string, write-thy-func, write-sort, write-application-head, write-expr}
+use Rattle.smt_text.specs.Table.{sourceTexts, textsFrom, ThyFuncTexts, isQuote, StringTexts}
 
 -- at 48 codes and one width
 computed : textsFrom 0 48 ≡ map bytes sourceTexts
@@ -22,4 +26,28 @@ thy-func-texts = record {
   sign-extend = λ w. rw (append-nil (decimal w));
   set-empty = λ enc b. rw (append-nil (write-sort enc b));
   map-default = λ enc b. rw (append-nil (write-sort enc b));
+}
+
+-- up to a quotation mark nothing is doubled
+doubled-behind : (t u : List ℕ) → any isQuote t ≡ false → doubled (t ++ u) ≡ t ++ doubled u
+doubled-behind [] u h = refl
+doubled-behind (b ∷ t) u h = go (isQuote b) (λ e. doubled-behind t u e) h
+  where
+    go : (v : Bool) → (any isQuote t ≡ false → doubled (t ++ u) ≡ t ++ doubled u) → (v || any isQuote t) ≡ false
+        → (cond v (b ∷ []) [] ++ (b ∷ doubled (t ++ u))) ≡ b ∷ t ++ doubled u
+    go true f e = clash (cc)
+    go false f e = ap (λ (l : List ℕ). b ∷ l) (f e)
+
+pub unmarked : (t : List ℕ) → any isQuote t ≡ false → doubled t ≡ t
+unmarked t h = rw (append-nil t) at (doubled-behind t [] h)
+
+pub string-texts : StringTexts
+unfolding write-string
+string-texts = record {
+  plain = λ t h. ap quotes (unmarked t h);
+  quoted = λ t u h. ap quotes (doubled-behind t (34 ∷ u) h) ∙ ap (λ (l : List ℕ). 34 ∷ l) (append-assoc t (34 ∷ 34 ∷ doubled u) (34 ∷ []));
+  alone = refl;
+  two = refl;
+  middle = refl;
+  ends = refl;
 }

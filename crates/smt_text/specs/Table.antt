@@ -1,18 +1,22 @@
--- The texts of the theory functions as `write_thy_func` and `write_application_head` of the source have them, said apart from the names that what is
--- written and what is called for share.
+-- Texts that are said apart from what the definitions share. The theory functions, as `write_thy_func` and `write_application_head` of the source
+-- have them: what is written and what is called for share their names. Strings (W-203): what is written and what is read share the doubling.
 use Prim.Native.Nat.{ℕ, zero, suc}
+use Prim.Native.Char.{code}
 use Prim.Native.String.{String}
 use mathlib.Core.Path.{_≡_}
+use mathlib.Core.Bool.{Bool, false}
 use mathlib.Core.List.{List, [], _∷_, _++_, map}
 use mathlib.Core.Option.{some}
-use Rattle.smtlib.specs.Lexicon.{bytes}
-use Rattle.smtlib.specs.Compose.{decimal}
+use lib.Dec.{eqb}
+use lib.ListN.{drop}
+use Rattle.smtlib.specs.Lexicon.{bytes, any}
+use Rattle.smtlib.specs.Compose.{quotes, decimal}
 use Rattle.task.specs.declared.ThyFunc.{ThyFunc}
 use Rattle.task.specs.declared.ThyFunc.the-variants.{BvZeroExtend, BvSignExtend, SetEmpty, MapDefault}
 use Rattle.task.specs.Ast.{Sort, Expr, Exprs}
 use Rattle.task.specs.Decode.{Res, got, refuse, coded, thyFuncs}
 use Rattle.smt_text.specs.Encoder.{Encoder}
-use Rattle.smt_text.specs.Text.{write-thy-func, write-sort, write-expr}
+use Rattle.smt_text.specs.Text.{write-string, write-thy-func, write-sort, write-expr}
 
 -- In the order of declaration, which is that of the codes 0 to 47. The two extend functions stand here with the width 24, and SetEmpty and
 -- MapDefault with the names that they have as heads.
@@ -54,3 +58,20 @@ pub record ThyFuncTexts : Type 0 where
   -- SetEmpty and MapDefault as heads, for every output sort
   pub set-empty : (enc : Encoder) (b : Sort) → write-expr enc (qualified SetEmpty b) ≡ bytes "(as emptyset " ++ (write-sort enc b ++ bytes ")")
   pub map-default : (enc : Encoder) (b : Sort) → write-expr enc (qualified MapDefault b) ≡ bytes "(as const " ++ (write-sort enc b ++ bytes ")")
+
+-- a quotation mark
+abbrev pub isQuote : ℕ → Bool
+isQuote b = eqb b (code "\"")
+
+-- What is written for strings. The first two fix it for each. (proofs/Texts.antt: string-texts)
+pub record StringTexts : Type 0 where
+  -- without a quotation mark: as the source writes every string
+  pub plain : (t : List ℕ) → any isQuote t ≡ false → write-string t ≡ quotes t
+  -- with one: up to the first as it is, this one twice, and what is behind it as it would be written behind an opening quotation mark
+  pub quoted : (t u : List ℕ) → any isQuote t ≡ false → write-string (t ++ (bytes "\"" ++ u)) ≡ bytes "\"" ++ (t ++ (bytes "\"\"" ++ drop 1 (write-string u)))
+  -- a quotation mark alone; two
+  pub alone : write-string (bytes "\"") ≡ bytes "\"\"\"\""
+  pub two : write-string (bytes "\"\"") ≡ bytes "\"\"\"\"\"\""
+  -- one between two bytes; one at each end
+  pub middle : write-string (bytes "a\"b") ≡ bytes "\"a\"\"b\""
+  pub ends : write-string (bytes "\"a\"") ≡ bytes "\"\"\"a\"\"\""

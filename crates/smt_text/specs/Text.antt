@@ -8,6 +8,7 @@ use mathlib.Core.List.{List, [], _∷_, _++_}
 use mathlib.Core.Option.{Option, none, some}
 use lib.Dec.{eqb}
 use Rattle.smtlib.specs.Lexicon.{bytes}
+use Rattle.smtlib.specs.Read.{doubled}
 use Rattle.smtlib.specs.Compose.{paren, quotes, line, decimal}
 use Rattle.task.specs.declared.BinOp.{BinOp}
 use Rattle.task.specs.declared.BinOp.the-variants as op
@@ -43,9 +44,9 @@ applied f (w ∷ ws) = sexp-list (f ∷ w ∷ ws)
 unfoldable pub write-name : List ℕ → List ℕ
 write-name x = x
 
--- strings too, in quotation marks
+-- A string stands in quotation marks. W-203: each quotation mark in it is written twice; the source writes it once.
 unfoldable pub write-string : List ℕ → List ℕ
-write-string t = quotes t
+write-string t = quotes (doubled t)
 
 -- `f` or `(_ f n)`
 abbrev pub write-identifier : Identifier → List ℕ

@@ -9,7 +9,7 @@ use Rattle.task.specs.declared.Fault.the-variants.{Sound}
 use Rattle.task.specs.declared.ThyFunc.{ThyFunc}
 use Rattle.task.specs.Ast.{Sort, Binder, Expr, Pred, DataDecl, FunDef, KVarDecl}
 use Rattle.task.specs.Decode.{Decoder, got, decSort, decExpr, decPred, datatype, constant, function, kvar}
-use Rattle.task.specs.Fault.{nameFault, stringFault, sortFault, exprFault, predFault, datatypeFault, binderFault, functionFault, kvarFault}
+use Rattle.task.specs.Fault.{nameFault, textFault, sortFault, exprFault, predFault, datatypeFault, binderFault, functionFault, kvarFault}
 use Rattle.smt_text.specs.Encoder.{Encoder}
 use Rattle.smt_text.specs.Text.{write-name, write-string, write-thy-func, write-sort, write-expr, write-pred, write-datatype-decl, write-const-decl, write-fun-def, write-kvar-decl}
 use Rattle.smt_text.specs.Sexp.{nameSexp, stringSexp, thyFuncSexp, sortSexp, exprSexp, predSexp, datatypeCommand, constantCommand, functionCommand, kvarCommand}
@@ -17,7 +17,7 @@ use Rattle.smt_text.specs.Sexp.{nameSexp, stringSexp, thyFuncSexp, sortS
 -- The text of a piece without fault spells its S-expression; that of a declaration is its command. (proofs/Spelling.antt: spelling)
 pub record Spelling (enc : Encoder) : Type 0 where
   pub names : (x : List ℕ) → nameFault x ≡ Sound → Says (write-name x) (nameSexp x)
-  pub strings : (t : List ℕ) → stringFault t ≡ Sound → Says (write-string t) (stringSexp t)
+  pub strings : (t : List ℕ) → textFault t ≡ Sound → Says (write-string t) (stringSexp t)
   pub thyFuncs : (f : ThyFunc) → Says (write-thy-func f) (thyFuncSexp f)
   pub sorts : (b : Sort) → sortFault false b ≡ Sound → Says (write-sort enc b) (sortSexp enc b)
   pub exprs : (e : Expr) → exprFault false e ≡ Sound → Says (write-expr enc e) (exprSexp enc e)

@@ -4,9 +4,10 @@ use mathlib.Core.Bool.{Bool, true, false, not, cond, _&&_, _||_}
 use mathlib.Core.Logic.{_⊎_, inl, inr}
 use mathlib.Core.List.{List, [], _∷_, _++_}
 use Prim.Native.String.{String}
-use Prim.Native.Nat.{ℕ}
+use Prim.Native.Nat.{ℕ, _<_, _≤_}
 use native.Mathlib.Omega.{arith}
-use lib.Dec.{T, eqb, eqb→eq, not-T}
+use lib.Dec.{T, leb, eqb, eqb→eq, not-T}
+use borrow.Author.Tests.{le-leb, lt-leb}
 use Rattle.smtlib.specs.Lexicon.{bytes, all, any, same, among}
 
 pub is-true : (v : Bool) → T v → v ≡ true
@@ -48,9 +49,24 @@ pub or-right : (a b : Bool) → T b → T (a || b)
 or-right true b t = tt
 or-right false b t = t
 
+pub or-false : (v : Bool) → (v || false) ≡ v
+or-false true = refl
+or-false false = refl
+
+pub or-true : (v : Bool) → (v || true) ≡ true
+or-true true = refl
+or-true false = refl
+
 pub either : (a b : Bool) → T (a || b) → T a ⊎ T b
 either true b t = inl tt
 either false b t = inr t
+
+-- a number below a range, and one from the range's first number on
+pub below-range : (a z b : ℕ) → b < a → false ≡ (leb a b && leb b z)
+below-range a z b h = simp (lt-leb a b h)
+
+pub from-range : (a z b : ℕ) → a ≤ b → leb b z ≡ (leb a b && leb b z)
+from-range a z b h = simp (le-leb a b h)
 
 -- 0 is not 1
 pub clash : {A : Type 0} → _≡_ {A = ℕ} 0 1 → A

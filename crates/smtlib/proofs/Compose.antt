@@ -4,10 +4,10 @@ use mathlib.Core.List.{List, [], _∷_, _++_, append-assoc, append-nil}
 use Prim.Native.Nat.{ℕ}
 use lib.Dec.{T, eqb, eqb→eq, not-T}
 use Rattle.smtlib.specs.Lexicon.{class, all, visible, stringByte}
-use Rattle.smtlib.specs.Read.{doubled, Spells, as-string, string, Item, closing, token, opening, noLineFeed, done, skip, comment, opens, closes, spells, Sexps, end, atom, list, items, script}
-use Rattle.smtlib.specs.Compose.{append, quotes, noQuote}
+use Rattle.smtlib.specs.Read.{as-string, Item, closing, token, opening, noLineFeed, done, skip, comment, opens, closes, spells, Sexps, end, atom, list, items, script}
+use Rattle.smtlib.specs.Compose.{append}
 use Rattle.smtlib.specs.Theorems.{Composition, StringSpells}
-use Rattle.smtlib.proofs.Bools.{is-true, is-false, all-head, all-tail, all-map}
+use Rattle.smtlib.proofs.Bools.{is-true, all-map}
 
 items-append : (xs ys : Sexps) (r : List Item) → items (append xs ys) r ≡ items xs (items ys r)
 items-append end ys r = refl
@@ -61,10 +61,5 @@ composition = record {
   written-read = λ {w} {cs} a. rw (append-nil w, append-nil cs) at (a .writes [] [] (record { reads = done }));
 }
 
-doubled-plain : (s : List ℕ) → T (all noQuote s) → doubled s ≡ s
-doubled-plain [] h = refl
-doubled-plain (b ∷ s) h = rw (is-false (eqb b 34) (all-head noQuote b s h)) (ap (λ (l : List ℕ). b ∷ l) (doubled-plain s (all-tail noQuote b s h)))
-
 pub string-spells : StringSpells
-string-spells s h g =
-    subst (λ (x : List ℕ). Spells (quotes x) (string s)) (doubled-plain s g) (as-string s (all-map visible stringByte visible-string s h))
+string-spells s h = as-string s (all-map visible stringByte visible-string s h)

@@ -11,7 +11,7 @@ use native.Mathlib.Omega.{arith}
 use lib.Dec.{T, leb, eqb, eqb→eq, leb→le}
 use lib.ListN.{length, getD, take, drop, length-drop, length-append, drop-of-length-le}
 use lib.Seq.{drop-cons, drop-drop, take-at, drop-at, take-suc, take-length}
-use borrow.Author.Tests.{eq-eqb, ne-eqb, eqb-false, lt-leb, le-leb}
+use borrow.Author.Tests.{eq-eqb, ne-eqb, eqb-false}
 use Rattle.smtlib.specs.Lexicon.{bytes, all, any, same, among, reservedWords, isReserved, digit, letter, symbolByte, isSimple, isSymbol}
 use Rattle.smtlib.specs.Table.{values, symbolPlace, symbolPlaces, rowOf, rowsTo, startOf, pieces, oneOf, inRow}
 use Rattle.smtlib.proofs.Bools.{never, true-holds, and-left, and-right, either, any-all, same→eq, among-each}
@@ -232,14 +232,6 @@ byte-low places b e h =
     go : (v : Bool) → symbolByte b ≡ v → not (eqb (cond v b 32) 32) ≡ v
     go true f = space (eqb b 32) refl f
     go false f = refl
-
--- is_digit
-
-pub digit-below : (b : ℕ) → b < 48 → false ≡ digit b
-digit-below b h = simp (lt-leb 48 b h)
-
-pub digit-from : (b : ℕ) → 48 ≤ b → leb b 57 ≡ digit b
-digit-from b h = simp (le-leb 48 b h)
 
 -- is_simple, is_symbol
 

@@ -1,9 +1,9 @@
 -- What a part of a text spells, whatever stands behind it: how a writer's text is taken apart.
-use mathlib.Core.Bool.{Bool, not, cond}
+use mathlib.Core.Bool.{cond}
 use mathlib.Core.List.{List, [], _∷_, _++_}
 use Prim.Native.Nat.{ℕ, zero, suc, _+_, _-_, _*_, _/_, _%_}
 use Prim.Native.Char.{code}
-use lib.Dec.{ltb, eqb}
+use lib.Dec.{ltb}
 use Rattle.smtlib.specs.Read.{Item, Parted, Lexes, Sexps, end, atom, list, items, Command, Reading}
 
 -- One row of S-expressions behind another.
@@ -36,10 +36,6 @@ quotes w = code "\"" ∷ w ++ (code "\"" ∷ [])
 -- w and a line feed
 abbrev pub line : List ℕ → List ℕ
 line w = w ++ (code "\n" ∷ [])
-
--- no `"`
-abbrev pub noQuote : ℕ → Bool
-noQuote b = not (eqb b (code "\""))
 
 -- The decimal digits of n, the last f of them at the most.
 abbrev pub digits : ℕ → ℕ → List ℕ

@@ -6,9 +6,9 @@ use Prim.Native.Char.{code}
 use lib.Dec.{T}
 use lib.ListN.{length, take}
 use Rattle.smtlib.specs.Lexicon.{visible, all, numeral}
-use Rattle.smtlib.specs.Read.{Token, word, string, Spells, Sexps, end, atom, list, Command, Reading}
+use Rattle.smtlib.specs.Read.{Token, word, string, doubled, Spells, Sexps, end, atom, list, Command, Reading}
 use Rattle.smtlib.specs.Cut.{outside, closed}
-use Rattle.smtlib.specs.Compose.{append, Says, Follows, Writes, paren, quotes, line, noQuote, digits, decimal, value}
+use Rattle.smtlib.specs.Compose.{append, Says, Follows, Writes, paren, quotes, line, digits, decimal, value}
 
 -- READINGS AND CUTS
 
@@ -64,9 +64,9 @@ pub record Composition : Type 0 where
   -- A text that writes commands is read as them.
   pub written-read : {w : List ℕ} {cs : List Command} → Writes w cs → Reading w cs
 
--- A string of printable bytes without `"` is written as it is. (proofs/Compose.antt: string-spells)
+-- A string of printable bytes is written with each `"` twice, in quotation marks. (proofs/Compose.antt: string-spells)
 abbrev pub StringSpells : Type 0
-StringSpells = (s : List ℕ) → T (all visible s) → T (all noQuote s) → Spells (quotes s) (string s)
+StringSpells = (s : List ℕ) → T (all visible s) → Spells (quotes (doubled s)) (string s)
 
 -- The decimal of a number is a numeral. (proofs/Decimal.antt: decimal-spells)
 abbrev pub DecimalSpells : Type 0

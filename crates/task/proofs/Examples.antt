@@ -13,7 +13,7 @@ use Rattle.task.specs.declared.ThyFunc.the-variants.{SetEmpty, MapDefaul
 use Rattle.task.specs.declared.Fault.the-variants.{Text, NoConstructors, BitVecWidth, Unqualified, WKVar, Arity, Shadowed, Sound}
 use Rattle.task.specs.Ast.{SortCtor, Sort, Sorts, Binder, Constant, Expr, Exprs, Pred, Constraint, Constraints, DataDecl, FunBody, FunDef, Task}
 use Rattle.task.specs.Decode.{got, refuse, raw, items, sortForms, decSort, binRels, exprForms, decExpr, decPred, decConstraint}
-use Rattle.task.specs.Fault.{lower, nameFault, sortFault, sortsFault, binderFault, needsSort, thyFuncFault, exprFault, exprsFault, predFault, shadowFault, constraintFault, constraintsFault, emptyFault, datatypeFault, arityFault, bodyFault, kvarFault, taskFault}
+use Rattle.task.specs.Fault.{lower, nameFault, textFault, sortFault, sortsFault, binderFault, needsSort, thyFuncFault, exprFault, exprsFault, predFault, shadowFault, constraintFault, constraintsFault, emptyFault, datatypeFault, arityFault, bodyFault, kvarFault, taskFault}
 use Rattle.task.specs.Task.{bound, framed, decoded, judged, taskOf, literallyTrue, predHeads, headsOf, headsIn, declarations}
 use Rattle.task.specs.Returns.{write-sort-returns, write-thy-func-returns, write-application-head-returns, write-expr-returns, write-pred-returns, write-datatype-decl-returns, write-const-decl-returns, write-fun-def-returns, write-kvar-decl-returns}
 
@@ -113,6 +113,15 @@ qualified = refl
 pub unqualified : exprFault false (Expr.app (Expr.thyFunc SetEmpty) Exprs.none none) ≡ Unqualified
 unfolding lower needsSort thyFuncFault exprFault exprsFault
 unqualified = refl
+
+-- A string with quotation marks, and one with a line feed behind one.
+pub quoted : exprFault false (Expr.constant (Constant.string (bytes "\"a\""))) ≡ Sound
+unfolding textFault exprFault
+quoted = refl
+
+pub broken : exprFault false (Expr.constant (Constant.string (bytes "\"\n"))) ≡ Text
+unfolding textFault exprFault
+broken = refl
 
 -- A datatype without constructors; a body with an argument too many.
 pub no-constructors : datatypeFault (record { name = bytes "D"; vars = 0; ctors = [] }) ≡ NoConstructors

@@ -1,10 +1,9 @@
--- What is refused of a task that decodes: document 01, "What each call says no to", from 4 on, with the numbers of W-206. A fault counts wherever
+-- What is refused of a task that decodes: document 01, "What each call says no to", from 4 on, with W-203 and W-206. A fault counts wherever
 -- it stands, also in places that are never written.
 use Prim.Native.Nat.{ℕ, suc}
-use mathlib.Core.Bool.{Bool, true, false, cond, not, _&&_, _||_}
+use mathlib.Core.Bool.{Bool, true, false, cond, not, _||_}
 use mathlib.Core.List.{List, [], _∷_, _++_}
 use mathlib.Core.Option.{Option, none, some}
-use Prim.Native.Char.{code}
 use lib.Dec.{leb, eqb}
 use lib.ListN.{length}
 use Rattle.smtlib.specs.Lexicon.{all, isOne, visible, isSymbol}
@@ -54,21 +53,9 @@ each fault (a ∷ rest) = lower (fault a) (each fault rest)
 unfoldable pub nameFault : List ℕ → Fault
 nameFault x = unless (isSymbol x) Text
 
--- 4: the bytes of a comment are 32 to 126; those of a string too, and none of them is a quotation mark
-abbrev pub shown : Bool → ℕ → Bool
-shown quote b = visible b && (quote || not (eqb b (code "\"")))
-
--- a text at fault, given whether it may have quotation marks
-unfoldable pub textFault : Bool → List ℕ → Fault
-textFault quote t = unless (all (shown quote) t) Text
-
--- a comment may
-abbrev pub commentFault : List ℕ → Fault
-commentFault = textFault true
-
--- a string may not
-abbrev pub stringFault : List ℕ → Fault
-stringFault = textFault false
+-- 4: the bytes of a comment or a string are 32 to 126. W-203: a string's may be quotation marks too.
+unfoldable pub textFault : List ℕ → Fault
+textFault t = unless (all visible t) Text
 
 -- a datatype's name in a sort
 abbrev pub ctorFault : SortCtor → Fault
@@ -107,7 +94,7 @@ abbrev pub constantFault : Constant → Fault
 constantFault (Constant.numeral n) = Sound
 constantFault (Constant.real n) = Sound
 constantFault (Constant.boolean b) = Sound
-constantFault (Constant.string t) = stringFault t
+constantFault (Constant.string t) = textFault t
 constantFault (Constant.bitVec n w) = Sound
 
 -- a theory function that is written by its sort
@@ -265,7 +252,7 @@ kvarFault k = lower (nameFault (k .kvid)) (sortsFault (k .sorts))
 -- the fault that is judged first in a whole task
 unfoldable pub taskFault : Task → Fault
 taskFault t =
-    lower (each commentFault (t .comments))
+    lower (each textFault (t .comments))
     (lower (each datatypeFault (t .datatypes))
     (lower (each binderFault (t .constants))
     (lower (each functionFault (t .functions))

@@ -1,19 +1,16 @@
 -- Whether the name at a position is a given one.
-use mathlib.Core.Path.{_≡_, refl, sym, _∙_}
-use mathlib.Core.Bool.{Bool, true, false, _||_}
+use mathlib.Core.Path.{_≡_, sym, _∙_}
+use mathlib.Core.Bool.{Bool, false}
 use mathlib.Core.List.{List}
 use Prim.Native.Nat.{ℕ}
 use Rattle.smtlib.specs.Lexicon.{same, isOne}
+use Rattle.smtlib.proofs.Bools.{or-false}
 use Rattle.task.specs.declared.Span.{Span}
 use Rattle.task.specs.declared.SpanRead.{SpanRead}
 use Rattle.task.specs.declared.SpanRead.the-variants as span-is
 use Rattle.task.specs.Decode.{name}
 use Rattle.task.specs.Node.{bytesOf, spanOf}
 use Rattle.task_check.specs.Walk.{namedAt}
-
-or-false : (a : Bool) → (a || false) ≡ a
-or-false true = refl
-or-false false = refl
 
 module _ (s w : List ℕ) (at : ℕ) (r : SpanRead) where
   pub named-none : name s at ≡ spanOf s r → r ≡ span-is.Refused → false ≡ isOne w (namedAt s at)

@@ -6,7 +6,7 @@ use Rattle.task.specs.declared.Fault.{Fault}
 use Rattle.task.specs.declared.Quantifier.the-variants.{Forall}
 use Rattle.task.specs.Ast.{Expr, Exprs, Pred}
 use Rattle.task.specs.Decode.{Res, got, refuse, Decoder, give, _▹_, many, counted, name, binder, given, decExpr}
-use Rattle.task.specs.Fault.{lower, nameFault, stringFault, widthFault, thyFuncFault}
+use Rattle.task.specs.Fault.{lower, nameFault, textFault, widthFault, thyFuncFault}
 use Rattle.task.specs.Task.{literallyTrue}
 use Rattle.task.specs.Node.{bytesOf}
 use Rattle.task.specs.declared.SortNode.{SortNode}
@@ -52,7 +52,7 @@ abbrev pub exprParts : List ℕ → Bool → ExprNode → ExprParts
 exprParts s head (expr-node.Numeral lo hi p) = expr-parts.Row 0 p Sound
 exprParts s head (expr-node.Boolean b p) = expr-parts.Row 0 p Sound
 exprParts s head (expr-node.Real n p) = expr-parts.Row 0 p Sound
-exprParts s head (expr-node.String x p) = expr-parts.Row 0 p (stringFault (bytesOf s x))
+exprParts s head (expr-node.String x p) = expr-parts.Row 0 p (textFault (bytesOf s x))
 exprParts s head (expr-node.BitVec lo hi w p) = expr-parts.Row 0 p Sound
 exprParts s head (expr-node.Var x p) = expr-parts.Row 0 p (nameFault (bytesOf s x))
 exprParts s head (expr-node.WKVar p) = expr-parts.Row 0 p WKVar

@@ -11,10 +11,10 @@ ghost use mathlib.Core.Path.{_≡_};
 ghost use Prim.Native.Nat.{_+_, _<_};
 ghost use mathlib.Core.Bool.{true, false};
 ghost use mathlib.Core.List.{[], _∷_};
-ghost use Rattle.smtlib.specs.Lexicon.{all, isOne};
+ghost use Rattle.smtlib.specs.Lexicon.{all, isOne, visible};
 ghost use Rattle.task.specs.Ast.{Sorts, Exprs};
 ghost use Rattle.task.specs.Decode.{many, name, binder, given, decSort, decExpr, decPred};
-ghost use Rattle.task.specs.Fault.{rank as rankOf, lower as lowerOf, each, nameFault, shown, textFault, widthFault, sortFault, sortsFault, binderFault, needsSort, thyFuncFault, givenFault, exprFault, exprsFault, predFault};
+ghost use Rattle.task.specs.Fault.{rank as rankOf, lower as lowerOf, each, nameFault, textFault, widthFault, sortFault, sortsFault, binderFault, needsSort, thyFuncFault, givenFault, exprFault, exprsFault, predFault};
 ghost use Rattle.task.specs.Node.{bytesOf};
 ghost use Rattle.task_check.specs.Walk.{walked, after as afterOf, sortParts, exprParts, applied, quantified, readTrue, namedAt};
 
@@ -96,29 +96,23 @@ pub fn is_named(s: &[u8], at: usize, x: &[u8]) -> bool
     smtlib::same_bytes(x, task::bytes_of(s, y))
 }
 
-// A byte from 32 to 126; in a string no quotation mark.
-fn is_shown(b: u8, quote: bool) -> bool
-    ensures { λ r. ⌜ r ≡ shown quote b ⌝ }
+// A byte from 32 to 126.
+fn is_visible(b: u8) -> bool
+    ensures { λ r. ⌜ r ≡ visible b ⌝ }
 {
     if b < 32 {
         return false;
     }
-    if 126 < b {
-        return false;
-    }
-    if b == b'"' {
-        return quote;
-    }
-    true
+    b <= 126
 }
 
 // Whether every byte is such a byte.
-fn all_shown(text: &[u8], quote: bool) -> bool
-    ensures { λ r. ⌜ r ≡ all (shown quote) (now (text .entry)) ⌝ }
+fn all_visible(text: &[u8]) -> bool
+    ensures { λ r. ⌜ r ≡ all visible (now (text .entry)) ⌝ }
 {
     let mut i: usize = 0;
     while i < text.len() {
-        if is_shown(text[i], quote) {
+        if is_visible(text[i]) {
             i += 1;
         } else {
             return false;
@@ -127,11 +121,11 @@ fn all_shown(text: &[u8], quote: bool) -> bool
     true
 }
 
-// The fault of a comment's or a string's bytes. A comment may have quotation marks.
-pub fn text_fault(s: &[u8], x: Span, quote: bool) -> Fault
-    ensures { λ r. ⌜ r ≡ textFault quote (bytesOf (now (s .entry)) x) ⌝ }
+// The fault of a comment's or a string's bytes.
+pub fn text_fault(s: &[u8], x: Span) -> Fault
+    ensures { λ r. ⌜ r ≡ textFault (bytesOf (now (s .entry)) x) ⌝ }
 {
-    if all_shown(task::bytes_of(s, x), quote) {
+    if all_visible(task::bytes_of(s, x)) {
         return Fault::Sound;
     }
     Fault::Text
@@ -277,7 +271,7 @@ fn expr_parts(s: &[u8], node: ExprNode, head: bool) -> ExprParts
         ExprNode::Numeral(_, _, p) => ExprParts::Row(0, p, Fault::Sound),
         ExprNode::Boolean(_, p) => ExprParts::Row(0, p, Fault::Sound),
         ExprNode::Real(_, p) => ExprParts::Row(0, p, Fault::Sound),
-        ExprNode::String(x, p) => ExprParts::Row(0, p, text_fault(s, x, false)),
+        ExprNode::String(x, p) => ExprParts::Row(0, p, text_fault(s, x)),
         ExprNode::BitVec(_, _, _, p) => ExprParts::Row(0, p, Fault::Sound),
         ExprNode::Var(x, p) => ExprParts::Row(0, p, name_fault(s, x)),
         ExprNode::WKVar(p) => ExprParts::Row(0, p, Fault::WKVar),

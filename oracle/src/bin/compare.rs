@@ -12,7 +12,8 @@ use oracle::check::checked;
 use oracle::faults::{any_kind, Case, KINDS};
 use oracle::limits::limits;
 use oracle::shrink::smallest;
-use oracle::task::{Answer, NOTED, REFUSALS};
+use oracle::strings::strings;
+use oracle::task::{decoded, Answer, NOTED, REFUSALS};
 use oracle::text::Rendering;
 use std::{collections::HashMap, env, process::ExitCode};
 
@@ -108,9 +109,10 @@ impl Compared {
 /// For each answer to a file the number of those that got it: accepted in front, then the refusals in the order of judging.
 type Counts = [usize; 1 + REFUSALS.len()];
 
-/// The files by kind and by answer, and those with two faults that are noted, by the refusals in the order of place.
+/// The files by kind and by answer; of all those with a quotation mark in a string; and those with two faults that are noted, by the refusals in
+/// the order of place.
 #[derive(Default)]
-struct Table { rows: Vec<(String, Counts)>, pairs: HashMap<[u8; 2], usize>, compared: Compared }
+struct Table { rows: Vec<(String, Counts)>, with_quotes: Counts, pairs: HashMap<[u8; 2], usize>, compared: Compared }
 
 impl Table {
     fn add(&mut self, kind: &str, case: &Case) -> Same {
@@ -123,7 +125,10 @@ impl Table {
             self.rows.push((kind.to_string(), Counts::default()));
             self.rows.len() - 1
         });
-        self.rows[at].1[REFUSALS.iter().position(|refusal| *refusal == number).map_or(0, |place| 1 + place)] += 1;
+        let column = REFUSALS.iter().position(|refusal| *refusal == number).map_or(0, |place| 1 + place);
+        self.rows[at].1[column] += 1;
+        let with_quote = decoded(&case.file).is_ok_and(|task| strings(&task).iter().any(|string| string.contains('"')));
+        self.with_quotes[column] += with_quote as usize;
         case.pair.iter().for_each(|pair| *self.pairs.entry(*pair).or_default() += 1);
         self.compared.file(&case.file, &answer)
     }
@@ -131,15 +136,16 @@ impl Table {
     fn print(&self) {
         let columns = |numbers: &[usize]| numbers.iter().map(|number| format!("{number:>9}")).collect::<String>();
         let titles = |refusals: &[u8]| columns(&refusals.iter().map(|refusal| *refusal as usize).collect::<Vec<_>>());
-        let print = |kind: &str, counts: &Counts| println!("{kind:<15}{:>9}{}", counts.iter().sum::<usize>(), columns(counts));
-        println!("{:<15}{:>9}{:>9}{}", "kind", "files", "accepted", titles(&REFUSALS));
+        let print = |kind: &str, counts: &Counts| println!("{kind:<17}{:>9}{}", counts.iter().sum::<usize>(), columns(counts));
+        println!("{:<17}{:>9}{:>9}{}", "kind", "files", "accepted", titles(&REFUSALS));
         self.rows.iter().for_each(|(kind, counts)| print(kind, counts));
         print("total", &std::array::from_fn(|number| self.rows.iter().map(|(_, counts)| counts[number]).sum()));
+        print("quotes in strings", &self.with_quotes);
         println!("two faults, the row's in front of the column's");
-        println!("{:<15}{}", "", titles(NOTED));
+        println!("{:<17}{}", "", titles(NOTED));
         for front in NOTED {
             let counts: Vec<usize> = NOTED.iter().map(|behind| self.pairs.get(&[*front, *behind]).copied().unwrap_or(0)).collect();
-            println!("{front:<15}{}", columns(&counts));
+            println!("{front:<17}{}", columns(&counts));
         }
         let Compared { parts, calls, sampled } = self.compared;
         println!("{parts} parts in {calls} calls");

@@ -263,7 +263,7 @@ fn needs_sort(expr: &Expr) -> bool {
 fn in_expr(expr: &Expr) -> u8 {
     match expr {
         Expr::Number | Expr::Boolean(_) => 0,
-        Expr::String(text) => in_text(text) | fault_if(text.contains(&b'"'), TEXT),
+        Expr::String(text) => in_text(text),
         Expr::Var(name) => in_name(name),
         Expr::WKVar => WEAK,
         Expr::ThyFunc(_) => fault_if(needs_sort(expr), NO_SORT),
@@ -357,9 +357,9 @@ const KINDS: [Kind; 9] = [
     ("v", "v: @", 0, &["'k #0", "N #2 1 S"], &["N #1 5 *4"]),
     ("S", "k: 'c @", 1, &["0", "1", "2", "3", "4 5 8 *3", "6 1 0", "7 S S", "8 1 0 S", "9 #0", "9 #1 S", "10 #2 0 S", "11 'D #0",
         "11 N #1 S"], &["5 8 *3", "4 0", "4 4 5 *4"]),
-    ("E", "h: 0 1 @", 3, &["0 *16", "1 0", "2 *4", "3 #0", "3 #2 32 126", "4 *20", "5 N", "7 E", "8 E", "9 4 E E", "10 5 E E", "11 E E",
+    ("E", "h: 0 1 @", 3, &["0 *16", "1 0", "2 *4", "3 #0", "3 #2 32 126", "3 #2 34 34", "4 *20", "5 N", "7 E", "8 E", "9 4 E E", "10 5 E E", "11 E E",
         "12 E E", "13 #0", "13 #1 E", "14 #3 E E E", "15 E E E", "16 N E E", "17 0 E #1 E", "17 1 S 18 38 #0", "17 1 0 18 45 #1 E", "18 0",
-        "18 5 255", "19 N E", "20 0 #0 E", "20 1 #2 N S 'q 1 E"], &["6", "18 38", "18 45", "17 0 18 38 #0", "3 #1 34", "3 #1 31"]),
+        "18 5 255", "19 N E", "20 0 #0 E", "20 1 #2 N S 'q 1 E"], &["6", "18 38", "18 45", "17 0 18 38 #0", "3 #1 127", "3 #2 34 31"]),
     ("P", "h: 0 @", 2, &["1 E", "1 1 1", "0 N #0", "0 'k #2 E E"], &["0 'let #0"]),
     ("C", "h: @", 1, &["0 P", "1 #0", "1 #2 C C", "1 #3 C C C", "2 B 0 #0 C", "2 B S #2 P P C"], &[]),
 ];
@@ -536,11 +536,13 @@ fn names(cases: &mut Cases) {
     let long = "97 ".repeat(256);
     cases.is(Ok((1, 1)), &format!("c: #256 {long} d: 'D 255 255 #1 'c #0 h: 0 1 3 #257 {long} 97"));
     cases.no(2, &format!("c: #257 {long}"));
-    cases.no(4, &format!("h: 0 1 3 #257 {long} 34"));
+    cases.is(Ok((0, 1)), &format!("h: 0 1 3 #257 {long} 34"));
+    cases.no(4, &format!("h: 0 1 3 #258 34 {long} 31"));
+    cases.is(Ok((0, 1)), &format!("h: 0 1 3 #59967 {}", "34 ".repeat(59_967)));
     for byte in [10, 31, 32, 34, 126, 127, 128] {
         let printable = (32..127).contains(&byte);
         cases.is(if printable { Ok((0, 0)) } else { Err(4) }, &format!("c: #0 #2 97 {byte}"));
-        cases.is(if printable && byte != 34 { Ok((0, 1)) } else { Err(4) }, &format!("h: 0 1 3 #1 {byte}"));
+        cases.is(if printable { Ok((0, 1)) } else { Err(4) }, &format!("h: 0 1 3 #1 {byte}"));
     }
 }
 

@@ -230,6 +230,10 @@ const ASSERTIONS: &[(&str, &str)] = &[
     ("(=> (not (and true)) false)", "h: 0 1 13 #1 1 1"), ("(=> (not true) false)", "h: 0 1 17 0 1 1 #0"),
     ("(=> (not (not false)) false)", "h: 0 1 8 1 0"), ("(=> true (k e))", "h: 0 0 'k #1 E"),
     ("x: (=> (k x e) (k0 e (+ x 1) false))", "h: 2 'x S #1 0 'k #2 5 'x E 0 0 'k0 #3 E 9 0 5 'x 0 1 *15 1 0"),
+    // Quotation marks in strings: alone, two, between, at both ends, and around what would be a command
+    ("(=> (not \"\"\"\") false)", "h: 0 1 3 \"\""), ("(=> (not \"\"\"\"\"\") false)", "h: 0 1 3 \"\"\""),
+    ("(=> (not (= \"a\"\"b\" \"\"\"a\"\"\")) false)", "h: 0 1 10 0 3 \"a\"b 3 \"\"a\""),
+    ("x: (=> \"\"\")(check-sat)(\"\"\" (k \"\"\"\"))", "h: 2 'x S #1 1 3 \"\")(check-sat)(\" 0 0 'k #1 3 \"\""),
     // Names: an expression may bind a ForAll's, a ForAll may be called as something declared
     ("x: (=> (not (exists ((x Bool)) (let ((x x)) x))) false)", "h: X 0 1 20 0 #1 'x 1 16 'x 5 'x 5 'x"),
     ("xk: (=> true k)", "h: X 2 'k 0 #0 0 K"),
@@ -283,11 +287,15 @@ fn lengths(cases: &mut Cases) {
     let params = |vars: u16, name: &str| format!("d: '{name} #{vars} #1 'c #0 h: 0 K");
     // An assertion: a function of 14 bytes in each 2 bytes
     let ors = |name: &str| format!("1 14 #4367 {} 5 '{name}", "18 13 ".repeat(4366));
-    for (over, comment, datatype, member) in [(0, "c", "fives", "abcdefghijklmn"), (1, "cc", "sixths", "abcdefghijklmno")] {
+    // A string: each quotation mark gives 2 bytes
+    let string = |last: &str| format!("h: 0 1 3 \"{}{last}", "\"".repeat(32_753));
+    for (over, comment, datatype, member, last) in [(0, "c", "fives", "abcdefghijklmn", "a"), (1, "cc", "sixths", "abcdefghijklmno", "\"")] {
+        cases.longest(LONGEST_PART + over, &string(last));
         cases.longest(LONGEST_PART + over, &comments(comment));
         cases.longest(LONGEST_PART + over, &params(10_942, datatype));
         cases.longest(LONGEST_PART + over, &format!("h: 0 {}", ors(member)));
     }
+    cases.longest(119_963, &format!("h: 0 1 3 \"{}", "\"".repeat(59_967)));
     cases.longest(447_683, &params(65_535, "N"));
     let two = params(65_535, "N").replace(" h:", " 'M 255 255 #1 'c #0 h:");
     cases.longest(447_683, &two);
@@ -318,7 +326,7 @@ fn refusals(cases: &mut Cases) {
     for (refusal, files) in [
         (2, &["h:", "h: 3", "h: C C", "h: 0 2", "h: 0 1 21", "h: 0 1 1 2", "h: 0 1 18 48", "h: 0 0 0 #0", "k: 'c 12", "c: #2 97",
             "h: 1 #2 0 K"][..]),
-        (4, &["k: 'par 0", "k: '1 0", "v: 'a(b #0", "c: #1 10", "h: 0 1 3 #1 34", "h: 0 1 3 #1 127", "h: 2 'let 0 #0 C",
+        (4, &["k: 'par 0", "k: '1 0", "v: 'a(b #0", "c: #1 10", "h: 0 1 3 #2 34 10", "h: 0 1 3 #1 127", "h: 2 'let 0 #0 C",
             "h: 0 0 'assert #0", "h: 0 1 5 'check-sat", ACCIDENT,
             "k: 'c 11 'U #1 11 'as #0"]),
         (5, &["d: 'D #0 #0", "d: 'E #1 #1 'e #0 'D #0 #0", "d: 'D #0 #0 k: 'c 4 0 h: 0 1 6"]),
@@ -373,7 +381,7 @@ const FORMS: [(&str, &[&str]); 9] = [
     ("v", &["N #0", "N #1 S", "N #3 S S S"]),
     ("S", &["0", "1", "2", "3", "4 5 U", "6 #1", "7 S S", "8 #2 S", "9 #0", "9 #1 S", "10 #2 S S", "11 N #0", "11 N #1 S",
         "11 'List #1 S"]),
-    ("E", &["0 Q", "1 0", "1 1", "2 U", "3 #0", "3 #3 32 40 126", "4 Q U", "5 N", "5 N", "7 E", "8 E", "9 0 E E", "9 3 E E", "10 0 E E",
+    ("E", &["0 Q", "1 0", "1 1", "2 U", "3 #0", "3 #3 32 40 126", "3 #3 34 97 34", "4 Q U", "5 N", "5 N", "7 E", "8 E", "9 0 E E", "9 3 E E", "10 0 E E",
         "10 1 E E", "10 5 E E", "11 E E", "12 E E", "13 #0", "13 #1 E", "13 #3 E E E", "14 #0", "14 #2 E E", "15 E E E", "16 N E E",
         "17 0 E #0", "17 0 E #2 E E", "17 1 S 5 N #0", "17 1 S 5 N #1 E", "17 1 S 18 38 #0", "17 1 S 18 45 #1 E", "18 2", "18 6 7", "18 43",
         "19 N E", "20 0 #0 E", "20 1 #2 N S N S E"]),

@@ -9,7 +9,7 @@
 //! declared. A line is the text's length in decimal, a space, the text, a line feed; a declaration's text ends in a line feed of its own.
 //! The fixed cases carry the text they were made for, and the run stops where the rendering disagrees. Those made by chance carry none.
 use oracle::chance::{Chance, SEED};
-use std::{collections::HashSet, env, fs, io, mem, path::Path, slice};
+use std::{collections::HashSet, env, fs, io, iter, mem, path::Path, slice};
 use Tree::*;
 
 // ---- The forms of pieces
@@ -61,6 +61,7 @@ const LISTS: &str = "sebcn";
 
 // ---- The notation: a piece is a list of its form's name, if it has one, and its fields; the items of a last field stand without a list
 // around them. `par` and `body` are left out, `Expr` may be. A form without fields, a Numeral, a Text in quotes and a Var may be a word.
+// A quotation mark of a Text is written twice.
 
 enum Tree { Word(String), List(Vec<Tree>) }
 
@@ -122,6 +123,12 @@ fn parsed(notation: &str) -> Vec<Tree> {
 /// What a symbol is made of; a digit is not first in one.
 const SYMBOL: &str = "abcdefghijklmnopqrstuvwxyzABCDEFGHIJKLMNOPQRSTUVWXYZ~!@$%^&*_-+=<>.?/0123456789";
 
+/// The content of a Text.
+fn content(word: &str) -> String { word[1..word.len() - 1].replace("\"\"", "\"") }
+
+/// Each quotation mark twice.
+fn doubled(text: &str) -> String { text.chars().flat_map(|c| iter::repeat_n(c, 1 + (c == '"') as usize)).collect() }
+
 fn number(bytes: usize, number: u128) -> Vec<u8> {
     assert!(bytes == 16 || number < 1 << (8 * bytes));
     number.to_le_bytes()[..bytes].to_vec()
@@ -149,9 +156,9 @@ fn encoded(kind: char, level: usize, tree: &Tree) -> Vec<u8> {
                     [&[name.len() as u8], name.as_bytes()].concat()
                 }
                 'T' => {
-                    let text = item.word().trim_matches('"').as_bytes();
-                    assert!(text.iter().all(|b| (32..127).contains(b) && *b != b'"'));
-                    [&number(2, text.len() as u128), text].concat()
+                    let text = content(item.word());
+                    assert!(text.bytes().all(|b| (32..127).contains(&b)));
+                    [&number(2, text.len() as u128), text.as_bytes()].concat()
                 }
                 _ => number(match letter { 'O' | '1' => 1, '2' => 2, '4' => 4, _ => 16 }, item.word().parse().unwrap()),
             });
@@ -176,7 +183,7 @@ impl<'a> Declared<'a> {
             'S' | 'E' => self.text(letter, item),
             's' | 'e' | 'b' | 'c' => format!(" {}", self.text(letter.to_ascii_uppercase(), item)),
             'N' | 'n' => item.word().to_string(),
-            'T' => item.word().trim_matches('"').to_string(),
+            'T' => doubled(&content(item.word())),
             'O' if ["5", "6", "38", "45"].contains(&item.word()) => panic!("a theory function that is not written so"),
             'O' => THEORY[item.word().parse::<usize>().unwrap()].to_string(),
             _ => item.word().parse::<u128>().unwrap().to_string(),
@@ -266,7 +273,7 @@ fn hundred() -> String {
 fn long_name() -> String { SYMBOL.chars().cycle().take(255).collect() }
 
 /// Every byte that a string may have.
-fn printable() -> String { (32..127).map(char::from).filter(|c| *c != '"').collect() }
+fn printable() -> String { (32..127).map(char::from).collect() }
 
 fn sorts(cases: &mut Cases) {
     cases.all('S', &[
@@ -322,12 +329,12 @@ fn constants(cases: &mut Cases) {
     cases.all('E', &[
         ("true", "true"), ("false", "false"), ("0", "(Real 0)"), ("7", "(Real 7)"), ("4294967295", "(Real 4294967295)"),
         ("(_ bv0 0)", "(Bv 0 0)"), ("(_ bv5 8)", "(Bv 5 8)"), ("(_ bv9 4294967295)", "(Bv 9 4294967295)"), ("\"\"", "\"\""),
-        ("\" \"", "\" \""), ("\"a(b;c|d\\e:~\"", "\"a(b;c|d\\e:~\""), ("x", "x"), ("true", "(Var true)"), ("Int", "Int"), ("T0", "T0"),
+        ("\" \"", "\" \""), ("\"\"\"\"", "\"\"\"\""), ("\"a\"\"b\"", "\"a\"\"b\""), ("\"a(b;c|d\\e:~\"", "\"a(b;c|d\\e:~\""), ("x", "x"), ("true", "(Var true)"), ("Int", "Int"), ("T0", "T0"),
         ("-", "-"), ("and", "and"), ("~!@$%^&*_-+=<>.?/", "~!@$%^&*_-+=<>.?/"), (&long_name(), &long_name()),
     ]);
     // The last is the longest string in a body
     for length in [94, 255, 256, 5000, 59_997] {
-        let text = format!("\"{}\"", printable().chars().cycle().take(length).collect::<String>());
+        let text = format!("\"{}\"", doubled(&printable().chars().cycle().take(length).collect::<String>()));
         cases.is('E', &text, &text);
     }
 }
@@ -560,7 +567,7 @@ impl Maker {
                     ('E' | 'e' | 'b' | 'c', _) => self.piece(letter.to_ascii_uppercase(), below),
                     ('N' | 'n', _) if self.0.below(12) == 0 => format!("Q{}", self.signs(SYMBOL)),
                     ('N' | 'n', _) => NAMES[self.0.below(9)].to_string(),
-                    ('T', _) => format!("\"{}\"", self.signs(&printable())),
+                    ('T', _) => format!("\"{}\"", doubled(&self.signs(&printable()))),
                     ('O', _) => ["7", "14", "37", "39", "44", "46"][self.0.below(6)].to_string(),
                     ('2', "") if kind == 'D' => "0".to_string(),
                     ('2', "par") => (1 + self.0.below(12)).to_string(),
