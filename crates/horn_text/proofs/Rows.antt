@@ -86,6 +86,7 @@ numbers = record {
   survey = refl;
   listed = refl;
   forms = refl;
+  texts = refl;
   order = in-order;
   no-part = refl;
   part-short = refl;

@@ -10,7 +10,7 @@ use Rattle.smtlib.specs.Lexicon.{bytes, any}
 use Rattle.task.specs.declared.Fault.{Fault}
 use Rattle.task.specs.Fault.{refusalOf, lower}
 use Rattle.horn_text.specs.Answers.{refused, surveyPlaces, surveyNumbers, surveyAnswer}
-use Rattle.horn_text.specs.Table.{zeros, partCall, scriptCall, offset, fileWith, fileOf, constraintOnly, named, var, exprPred, head, trueHead}
+use Rattle.horn_text.specs.Table.{zeros, partCall, scriptCall, offset, fileWith, fileOf, constraintOnly, named, var, string, exprPred, head, trueHead}
 
 -- FILES
 
@@ -105,6 +105,14 @@ formFiles =
     (14, constraintOnly (2 ∷ named "x" ++ 0 ∷ 1 ∷ 0 ∷ exprPred wkVar ++ trueHead)) ∷
     []
 
+-- What 4 covers besides (W-203): a string with a line feed behind a quotation mark, one with the byte 127, and a Var that is named `a"b`.
+abbrev pub textFiles : List Row
+textFiles =
+    (4, headOf (string "\"\n")) ∷
+    (4, headOf (3 ∷ 1 ∷ 0 ∷ 127 ∷ [])) ∷
+    (4, headOf (var "a\"b")) ∷
+    []
+
 -- THE ORDER
 
 -- the place of a number on the list; a number that is not on it has the place behind all
@@ -125,6 +133,7 @@ pub record Numbers : Type 0 where
   pub listed : map (λ r. r .0) refusedFiles ≡ surveyNumbers
   -- so does each of the further files
   pub forms : Get formFiles
+  pub texts : Get textFiles
   -- the faults are judged in the order of the list: of two the one whose number has the place further in front
   pub order : (f g : Fault) → placeOf (lower f g) ≡ min (placeOf f) (placeOf g)
   -- there is no part 3 of the smallest file

@@ -11,7 +11,7 @@ use Rattle.smtlib.specs.Lexicon.{any}
 use Rattle.smtlib.specs.Read.{doubled}
 use Rattle.smtlib.proofs.Bools.{is-false, true-holds, or-false, or-true}
 use Rattle.smt_text.specs.Table.{isQuote}
-use Rattle.smt_text.proofs.Texts.{unmarked}
+use Rattle.smt_text.proofs.Texts.{unquoted}
 use Rattle.output.specs.Emit.{Output, emit, emits}
 use Rattle.output.proofs.Sent.{emits-append}
 
@@ -32,7 +32,7 @@ quotes-end t i f x h z = rw (drop-of-length-le t h, or-false f) at z
 
 -- without a quotation mark the bytes are sent as they are
 pub sent-plain : (t : List ℕ) (o o' : Output) (found : Bool) → found ≡ any isQuote t → not found ≡ true → o' ≡ emits o t → o' ≡ emits o (doubled t)
-sent-plain t o o' found u v e = rw (unmarked t (sym u ∙ is-false found (true-holds v))) e
+sent-plain t o o' found u v e = rw (unquoted t (sym u ∙ is-false found (true-holds v))) e
 
 -- the first byte, and the others
 doubled-first : (b : ℕ) (t : List ℕ) → doubled (b ∷ t) ≡ doubled (b ∷ []) ++ doubled t

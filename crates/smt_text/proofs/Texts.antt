@@ -38,13 +38,13 @@ doubled-behind (b ∷ t) u h = go (isQuote b) (λ e. doubled-behind t u e) h
     go true f e = clash (cc)
     go false f e = ap (λ (l : List ℕ). b ∷ l) (f e)
 
-pub unmarked : (t : List ℕ) → any isQuote t ≡ false → doubled t ≡ t
-unmarked t h = rw (append-nil t) at (doubled-behind t [] h)
+pub unquoted : (t : List ℕ) → any isQuote t ≡ false → doubled t ≡ t
+unquoted t h = rw (append-nil t) at (doubled-behind t [] h)
 
 pub string-texts : StringTexts
 unfolding write-string
 string-texts = record {
-  plain = λ t h. ap quotes (unmarked t h);
+  plain = λ t h. ap quotes (unquoted t h);
   quoted = λ t u h. ap quotes (doubled-behind t (34 ∷ u) h) ∙ ap (λ (l : List ℕ). 34 ∷ l) (append-assoc t (34 ∷ 34 ∷ doubled u) (34 ∷ []));
   alone = refl;
   two = refl;

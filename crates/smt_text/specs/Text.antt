@@ -1,6 +1,6 @@
 -- What is written: `smt_fmt.rs` with `SmtOptions::HORN`, function by function under the source's names with `-` for `_`, and
--- `write_kvar_decl` of `smt_horn.rs`. Where the source panics no task is accepted; a definition gives a text there too, since it gives one
--- for every tree.
+-- `write_kvar_decl` of `smt_horn.rs`; strings alone depart from it (`write-string`). Where the source panics no task is accepted; a definition gives
+-- a text there too, since it gives one for every tree.
 use Prim.Native.Nat.{ℕ, zero, suc}
 use Prim.Native.Char.{code}
 use mathlib.Core.Bool.{Bool, true, false, cond}
