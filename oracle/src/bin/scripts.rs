@@ -289,7 +289,9 @@ fn lengths(cases: &mut Cases) {
     let ors = |name: &str| format!("1 14 #4367 {} 5 '{name}", "18 13 ".repeat(4366));
     // A string: each quotation mark gives 2 bytes
     let string = |last: &str| format!("h: 0 1 3 \"{}{last}", "\"".repeat(32_753));
-    for (over, comment, datatype, member, last) in [(0, "c", "fives", "abcdefghijklmn", "a"), (1, "cc", "sixths", "abcdefghijklmno", "\"")] {
+    for (over, comment, datatype, member, last) in
+        [(0, "c", "fives", "abcdefghijklmn", "a"), (1, "cc", "sixths", "abcdefghijklmno", "\"")]
+    {
         cases.longest(LONGEST_PART + over, &string(last));
         cases.longest(LONGEST_PART + over, &comments(comment));
         cases.longest(LONGEST_PART + over, &params(10_942, datatype));
@@ -381,8 +383,8 @@ const FORMS: [(&str, &[&str]); 9] = [
     ("v", &["N #0", "N #1 S", "N #3 S S S"]),
     ("S", &["0", "1", "2", "3", "4 5 U", "6 #1", "7 S S", "8 #2 S", "9 #0", "9 #1 S", "10 #2 S S", "11 N #0", "11 N #1 S",
         "11 'List #1 S"]),
-    ("E", &["0 Q", "1 0", "1 1", "2 U", "3 #0", "3 #3 32 40 126", "3 #3 34 97 34", "4 Q U", "5 N", "5 N", "7 E", "8 E", "9 0 E E", "9 3 E E", "10 0 E E",
-        "10 1 E E", "10 5 E E", "11 E E", "12 E E", "13 #0", "13 #1 E", "13 #3 E E E", "14 #0", "14 #2 E E", "15 E E E", "16 N E E",
+    ("E", &["0 Q", "1 0", "1 1", "2 U", "3 #0", "3 #3 32 40 126", "3 #3 34 97 34", "4 Q U", "5 N", "5 N", "7 E", "8 E", "9 0 E E", "9 3 E E",
+        "10 0 E E", "10 1 E E", "10 5 E E", "11 E E", "12 E E", "13 #0", "13 #1 E", "13 #3 E E E", "14 #0", "14 #2 E E", "15 E E E", "16 N E E",
         "17 0 E #0", "17 0 E #2 E E", "17 1 S 5 N #0", "17 1 S 5 N #1 E", "17 1 S 18 38 #0", "17 1 S 18 45 #1 E", "18 2", "18 6 7", "18 43",
         "19 N E", "20 0 #0 E", "20 1 #2 N S N S E"]),
     ("P", &["0 N #0", "0 N #2 E E", "1 E", "1 E", "1 1 1"]),
