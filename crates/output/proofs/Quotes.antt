@@ -1,7 +1,7 @@
 -- Strings: the loop of has_quote, and the bytes of a string sent at once or one by one.
 use mathlib.Core.Path.{_≡_, sym, ap, _∙_}
-use mathlib.Core.Bool.{Bool, true, false, not, cond, _||_}
-use mathlib.Core.List.{List, [], _∷_, _++_, append-assoc}
+use mathlib.Core.Bool.{Bool, true, false, not, _||_, or-true, or-false}
+use mathlib.Core.List.{List, [], _∷_, _++_}
 use Prim.Native.Nat.{ℕ, suc, _+_, _<_, _≤_}
 use native.Mathlib.Numerals.{add-one}
 use lib.ListN.{length, drop, getD, drop-of-length-le}
@@ -9,7 +9,8 @@ use lib.Seq.{drop-cons}
 use borrow.Author.Tests.{eq-eqb, ne-eqb}
 use Rattle.smtlib.specs.Lexicon.{any}
 use Rattle.smtlib.specs.Read.{doubled}
-use Rattle.smtlib.proofs.Bools.{is-false, true-holds, or-false, or-true}
+use Rattle.smtlib.proofs.Bools.{is-false, true-holds}
+use Rattle.smtlib.proofs.Lexer.{doubled-append}
 use Rattle.smt_text.specs.Table.{isQuote}
 use Rattle.smt_text.proofs.Texts.{unquoted}
 use Rattle.output.specs.Emit.{Output, emit, emits}
@@ -34,10 +35,6 @@ quotes-end t i f x h z = rw (drop-of-length-le t h, or-false f) at z
 pub sent-plain : (t : List ℕ) (o o' : Output) (found : Bool) → found ≡ any isQuote t → not found ≡ true → o' ≡ emits o t → o' ≡ emits o (doubled t)
 sent-plain t o o' found u v e = rw (unquoted t (sym u ∙ is-false found (true-holds v))) e
 
--- the first byte, and the others
-doubled-first : (b : ℕ) (t : List ℕ) → doubled (b ∷ t) ≡ doubled (b ∷ []) ++ doubled t
-doubled-first b t = sym (append-assoc (cond (isQuote b) (b ∷ []) []) (b ∷ []) (doubled t))
-
 -- a byte of a string that is a quotation mark, and one that is none
 module _ (o : Output) (b : ℕ) where
   pub quote-byte : b ≡ 34 → emit (emit o b) b ≡ emits o (doubled (b ∷ []))
@@ -53,7 +50,7 @@ module _ (t : List ℕ) (i : ℕ) (o whole : Output) where
   pub doubled-more : (o' : Output) → i < length t → o' ≡ emits o (doubled (getD t i 0 ∷ [])) → emits o (doubled (drop i t)) ≡ whole
       → emits o' (doubled (drop (i + 1) t)) ≡ whole
   doubled-more o' h e z =
-      let f : doubled (drop i t) ≡ doubled (getD t i 0 ∷ []) ++ doubled (drop (i + 1) t) = rw (add-one i, drop-cons t i 0 h) (doubled-first (getD t i 0) (drop (suc i) t)) in
+      let f : doubled (drop i t) ≡ doubled (getD t i 0 ∷ []) ++ doubled (drop (i + 1) t) = rw (add-one i, drop-cons t i 0 h) (doubled-append (getD t i 0 ∷ []) (drop (suc i) t)) in
       rw e (sym (emits-append o _ (doubled (drop (i + 1) t))) ∙ ap (emits o) (sym f) ∙ z)
 
   pub doubled-end : length t ≤ i → emits o (doubled (drop i t)) ≡ whole → o ≡ whole

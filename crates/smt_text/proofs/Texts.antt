@@ -7,6 +7,7 @@ use Rattle.smtlib.specs.Lexicon.{bytes, any}
 use Rattle.smtlib.specs.Read.{doubled}
 use Rattle.smtlib.specs.Compose.{quotes, decimal}
 use Rattle.smtlib.proofs.Bools.{clash}
+use Rattle.smtlib.proofs.Lexer.{doubled-append}
 use Rattle.task.specs.Decode.{raw, thyFuncs}
 use Rattle.task.specs.Fault.{needsSort}
 use Rattle.smt_text.specs.Theory.{thyFuncName}
@@ -28,24 +29,22 @@ thy-func-texts = record {
   map-default = λ enc b. rw (append-nil (write-sort enc b));
 }
 
--- up to a quotation mark nothing is doubled
-doubled-behind : (t u : List ℕ) → any isQuote t ≡ false → doubled (t ++ u) ≡ t ++ doubled u
-doubled-behind [] u h = refl
-doubled-behind (b ∷ t) u h = go (isQuote b) (λ e. doubled-behind t u e) h
+-- without a quotation mark nothing is doubled
+pub unquoted : (t : List ℕ) → any isQuote t ≡ false → doubled t ≡ t
+unquoted [] h = refl
+unquoted (b ∷ t) h = go (isQuote b) (λ e. unquoted t e) h
   where
-    go : (v : Bool) → (any isQuote t ≡ false → doubled (t ++ u) ≡ t ++ doubled u) → (v || any isQuote t) ≡ false
-        → (cond v (b ∷ []) [] ++ (b ∷ doubled (t ++ u))) ≡ b ∷ t ++ doubled u
+    go : (v : Bool) → (any isQuote t ≡ false → doubled t ≡ t) → (v || any isQuote t) ≡ false → (cond v (b ∷ []) [] ++ (b ∷ doubled t)) ≡ b ∷ t
     go true f e = clash (cc)
     go false f e = ap (λ (l : List ℕ). b ∷ l) (f e)
-
-pub unquoted : (t : List ℕ) → any isQuote t ≡ false → doubled t ≡ t
-unquoted t h = rw (append-nil t) at (doubled-behind t [] h)
 
 pub string-texts : StringTexts
 unfolding write-string
 string-texts = record {
   plain = λ t h. ap quotes (unquoted t h);
-  quoted = λ t u h. ap quotes (doubled-behind t (34 ∷ u) h) ∙ ap (λ (l : List ℕ). 34 ∷ l) (append-assoc t (34 ∷ 34 ∷ doubled u) (34 ∷ []));
+  quoted = λ t u h.
+      ap quotes (doubled-append t (34 ∷ u) ∙ ap (λ (l : List ℕ). l ++ (34 ∷ 34 ∷ doubled u)) (unquoted t h))
+      ∙ ap (λ (l : List ℕ). 34 ∷ l) (append-assoc t (34 ∷ 34 ∷ doubled u) (34 ∷ []));
   alone = refl;
   two = refl;
   middle = refl;

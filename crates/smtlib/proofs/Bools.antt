@@ -1,6 +1,6 @@
 -- Tests that compute, as facts.
-use mathlib.Core.Path.{_≡_, refl, subst, subst⁻¹}
-use mathlib.Core.Bool.{Bool, true, false, not, cond, _&&_, _||_}
+use mathlib.Core.Path.{_≡_, refl, sym, ap, _∙_, subst, subst⁻¹}
+use mathlib.Core.Bool.{Bool, true, false, not, cond, _&&_, _||_, and-assoc}
 use mathlib.Core.Logic.{_⊎_, inl, inr}
 use mathlib.Core.List.{List, [], _∷_, _++_}
 use Prim.Native.String.{String}
@@ -49,14 +49,6 @@ pub or-right : (a b : Bool) → T b → T (a || b)
 or-right true b t = tt
 or-right false b t = t
 
-pub or-false : (v : Bool) → (v || false) ≡ v
-or-false true = refl
-or-false false = refl
-
-pub or-true : (v : Bool) → (v || true) ≡ true
-or-true true = refl
-or-true false = refl
-
 pub either : (a b : Bool) → T (a || b) → T a ⊎ T b
 either true b t = inl tt
 either false b t = inr t
@@ -77,6 +69,10 @@ all-head p b w h = and-left (p b) (all p w) h
 
 pub all-tail : (p : ℕ → Bool) (b : ℕ) (w : List ℕ) → T (all p (b ∷ w)) → T (all p w)
 all-tail p b w h = and-right (p b) (all p w) h
+
+pub all-append : (p : ℕ → Bool) (v w : List ℕ) → all p (v ++ w) ≡ (all p v && all p w)
+all-append p [] w = refl
+all-append p (b ∷ v) w = ap (λ (x : Bool). p b && x) (all-append p v w) ∙ sym (and-assoc (p b) (all p v) (all p w))
 
 pub all-snoc : (p : ℕ → Bool) (w : List ℕ) (b : ℕ) → T (all p w) → T (p b) → T (all p (w ++ (b ∷ [])))
 all-snoc p [] b h t = both (p b) true t tt

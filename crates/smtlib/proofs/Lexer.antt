@@ -223,12 +223,17 @@ spells-word : (a t : List ℕ) {is : List Item} → T (isSome (kindOf a)) → Pa
 unfolding word-of
 spells-word a t h p r = spells (as-word (kind-or symbol (kindOf a)) a (of-kind a h)) p r
 
+pub doubled-append : (a t : List ℕ) → doubled (a ++ t) ≡ doubled a ++ doubled t
+doubled-append [] t = refl
+doubled-append (x ∷ a) t =
+    ap (λ (l : List ℕ). cond (eqb x 34) (x ∷ []) [] ++ (x ∷ l)) (doubled-append a t)
+    ∙ sym (append-assoc (cond (eqb x 34) (x ∷ []) []) (x ∷ doubled a) (doubled t))
+
 doubled-snoc : (a : List ℕ) (b : ℕ) (t : List ℕ) → doubled (a ++ (b ∷ [])) ++ t ≡ doubled a ++ (cond (eqb b 34) (b ∷ []) [] ++ (b ∷ t))
-doubled-snoc [] b t = rw append-assoc
-doubled-snoc (x ∷ a) b t =
-    append-assoc (cond (eqb x 34) (x ∷ []) []) (x ∷ doubled (a ++ (b ∷ []))) t
-    ∙ ap (λ (l : List ℕ). cond (eqb x 34) (x ∷ []) [] ++ (x ∷ l)) (doubled-snoc a b t)
-    ∙ sym (append-assoc (cond (eqb x 34) (x ∷ []) []) (x ∷ doubled a) (cond (eqb b 34) (b ∷ []) [] ++ (b ∷ t)))
+doubled-snoc a b t =
+    ap (λ (l : List ℕ). l ++ t) (doubled-append a (b ∷ []))
+    ∙ append-assoc (doubled a) (doubled (b ∷ [])) t
+    ∙ ap (λ (l : List ℕ). doubled a ++ l) (append-assoc (cond (eqb b 34) (b ∷ []) []) (b ∷ []) t)
 
 spells-string : (a t : List ℕ) {is : List Item} → T (all stringByte a) → Parted t → Lexes t is
     → Lexes (34 ∷ doubled a ++ (34 ∷ t)) (token (string a) ∷ is)

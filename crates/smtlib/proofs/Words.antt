@@ -1,6 +1,6 @@
 -- What the code's functions are proved with: a law for each way through, over plain variables.
 use mathlib.Core.Path.{_≡_, refl, sym, ap, _∙_, subst}
-use mathlib.Core.Bool.{Bool, true, false, not, cond, _&&_, _||_, and-true, and-false, and-assoc}
+use mathlib.Core.Bool.{Bool, true, false, not, cond, _&&_, _||_, and-true, and-false}
 use mathlib.Core.Logic.{_⊎_, inl, inr}
 use mathlib.Core.List.{List, [], _∷_, _++_, append-assoc, append-nil}
 use Prim.Native.Nat.{ℕ, zero, suc, _+_, _-_, _≤_, _<_}
@@ -14,7 +14,7 @@ use lib.Seq.{drop-cons, drop-drop, take-at, drop-at, take-suc, take-length}
 use borrow.Author.Tests.{eq-eqb, ne-eqb, eqb-false}
 use Rattle.smtlib.specs.Lexicon.{bytes, all, any, same, among, reservedWords, isReserved, digit, letter, symbolByte, isSimple, isSymbol}
 use Rattle.smtlib.specs.Table.{values, symbolPlace, symbolPlaces, rowOf, rowsTo, startOf, pieces, oneOf, inRow}
-use Rattle.smtlib.proofs.Bools.{never, true-holds, and-left, and-right, either, any-all, same→eq, among-each}
+use Rattle.smtlib.proofs.Bools.{never, true-holds, and-left, and-right, either, any-all, same→eq, among-each, all-append}
 use Rattle.smtlib.proofs.Entries.{at-below, value-at}
 
 -- same_bytes
@@ -169,8 +169,7 @@ pub record Passing (w : List ℕ) (left : ℕ) : Type 0 where
   pub rest : all symbolByte (take left w) ≡ all symbolByte w
 
 all-last : (p : ℕ → Bool) (w : List ℕ) (b : ℕ) → all p (w ++ (b ∷ [])) ≡ all p w && p b
-all-last p [] b = and-true (p b)
-all-last p (a ∷ w) b = ap (λ (v : Bool). p a && v) (all-last p w b) ∙ sym (and-assoc (p a) (all p w) (p b))
+all-last p w b = all-append p w (b ∷ []) ∙ ap (λ (v : Bool). all p w && v) (and-true (p b))
 
 all-at : (w : List ℕ) (left : ℕ) → Passing w left → 0 < left → all symbolByte w ≡ all symbolByte (take (left - 1) w) && symbolByte (getD w (left - 1) 0)
 all-at w left s h =

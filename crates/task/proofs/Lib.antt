@@ -4,6 +4,7 @@ pub mod Forms
 pub mod Covering
 pub mod Pieces
 pub mod Judging
+pub mod Texts
 pub mod Items
 pub mod Examples
 pub mod Levels

@@ -1,17 +1,31 @@
--- What the writers need of faults and sections, and that faults cover what the source panics on.
+-- Which texts are at fault; what the writers need of faults and sections; and that faults cover what the source panics on.
 use Prim.Native.Nat.{ℕ, zero, suc, _<_, _≤_}
 use mathlib.Core.Path.{_≡_}
 use mathlib.Core.Bool.{false}
-use mathlib.Core.List.{List, [], _∷_}
+use mathlib.Core.List.{List, [], _∷_, _++_}
 use lib.Dec.{T}
-use lib.ListN.{length, getD}
+use lib.ListN.{length, getD, replicate}
 use Rattle.task.specs.declared.Fault.{Fault}
-use Rattle.task.specs.declared.Fault.the-variants.{Sound}
+use Rattle.task.specs.declared.Fault.the-variants.{Text, Sound}
 use Rattle.task.specs.Ast.{Sort, Binder, Expr, Pred, DataDecl, FunDef, KVarDecl}
 use Rattle.task.specs.Decode.{got, Decoder, _▹_, many, binder, decPred, section}
-use Rattle.task.specs.Fault.{lower, sortFault, binderFault, exprFault, predFault, datatypeFault, functionFault, kvarFault}
+use Rattle.task.specs.Fault.{lower, textFault, sortFault, binderFault, exprFault, predFault, datatypeFault, functionFault, kvarFault}
 use Rattle.task.specs.Returns.{write-sort-returns, write-expr-returns, write-pred-returns, write-datatype-decl-returns, write-const-decl-returns, write-fun-def-returns, write-kvar-decl-returns}
 use Rattle.task.specs.Covers.{CoversSome}
+
+-- the faults of n texts of one byte, from the byte b on
+abbrev pub faultsFrom : ℕ → ℕ → List Fault
+faultsFrom b zero = []
+faultsFrom b (suc n) = textFault (b ∷ []) ∷ faultsFrom (suc b) n
+
+-- Which comments and strings are at fault, said without the test of a byte. It is fixed so for all that are made of bytes. (proofs/Texts.antt: text-faults)
+pub record TextFaults : Type 0 where
+  -- of one byte: with 0 to 31 they are, with 32 to 126 not, with 127 to 255 they are
+  pub alone : faultsFrom 0 256 ≡ replicate 32 Text ++ (replicate 95 Sound ++ replicate 129 Text)
+  -- of none: not
+  pub empty : textFault [] ≡ Sound
+  -- of two parts: if one of them is
+  pub joined : (t u : List ℕ) → textFault (t ++ u) ≡ lower (textFault t) (textFault u)
 
 -- A piece's fault is put together by `lower`; there is none exactly if there is none in its parts.
 pub record SoundParts : Type 0 where

@@ -1,10 +1,9 @@
 -- Whether the name at a position is a given one.
 use mathlib.Core.Path.{_≡_, sym, _∙_}
-use mathlib.Core.Bool.{Bool, false}
+use mathlib.Core.Bool.{Bool, false, or-false}
 use mathlib.Core.List.{List}
 use Prim.Native.Nat.{ℕ}
 use Rattle.smtlib.specs.Lexicon.{same, isOne}
-use Rattle.smtlib.proofs.Bools.{or-false}
 use Rattle.task.specs.declared.Span.{Span}
 use Rattle.task.specs.declared.SpanRead.{SpanRead}
 use Rattle.task.specs.declared.SpanRead.the-variants as span-is
