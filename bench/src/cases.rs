@@ -14,13 +14,14 @@ pub const WHOLE: usize = 4;
 /// A case: its name, whether its growth is measured, and its files at so many quarters of its size.
 pub type Case = (&'static str, bool, fn(usize) -> Vec<Vec<u8>>);
 
-pub const CASES: [Case; 13] = [
+pub const CASES: [Case; 14] = [
     ("deep", true, |quarters| vec![deep(quarters)]),
     ("wide", true, |quarters| vec![packed(&format!("h: {}", heads(share(WIDE_HEADS, quarters))))]),
     ("wide-kvars", false, |quarters| vec![filled(quarters, "v: 'k0 #1 0 h: 2 'x 0 #2 P P 1 #@", || "0 0 'k0 #1 5 'x".to_string())]),
     ("expressions", true, |quarters| vec![expressions(quarters)]),
-    ("datatypes", true, |quarters| vec![datatypes(quarters, share(MANY_DATATYPES, quarters))]),
-    ("datatypes-few", false, |quarters| vec![datatypes(quarters, FEW_DATATYPES)]),
+    ("datatypes", true, |quarters| vec![datatypes(quarters, &numbered(share(MANY_DATATYPES, quarters)))]),
+    ("datatypes-few", false, |quarters| vec![datatypes(quarters, &numbered(FEW_DATATYPES))]),
+    ("one-bucket", true, |quarters| vec![datatypes(quarters, &in_one_bucket(share(MANY_DATATYPES, quarters)))]),
     ("applications", true, |quarters| vec![applications(share(APPS, quarters), share(VARIABLES, quarters))]),
     ("names", true, |quarters| vec![filled(quarters, "h: 0 1 13 #@", || "17 0 5 'merge #2 5 'left 5 'right".to_string())]),
     ("numerals", false, |quarters| vec![numerals(quarters)]),
@@ -87,12 +88,24 @@ fn expression(chance: &mut Chance, pieces: usize) -> Vec<u8> {
     }
 }
 
-/// So many datatypes with one constructor of one field, and KVars of sorts that are some of them.
-fn datatypes(quarters: usize, many: usize) -> Vec<u8> {
+/// The names of so many datatypes, each with that of its constructor.
+type Names = Vec<(String, String)>;
+
+fn numbered(many: usize) -> Names { (0..many).map(|i| (format!("D{i}"), format!("c{i}"))).collect() }
+
+/// Names that all fall into one of the 1,024 buckets of the archive's table of names.
+fn in_one_bucket(many: usize) -> Names {
+    let bucket = |name: &String| name.bytes().fold(0, |hash, byte| (31 * hash + byte as usize) % 1024);
+    let fallen = |letter: char| (0..).map(move |i| format!("{letter}{i:x}")).filter(move |name| bucket(name) == 0).take(many);
+    fallen('D').zip(fallen('c')).collect()
+}
+
+/// Datatypes with one constructor of one field, and KVars of sorts that are some of them.
+fn datatypes(quarters: usize, names: &Names) -> Vec<u8> {
     let mut chance = Chance::new(SEED);
-    let declared: String = (0..many).map(|i| format!("'D{i} #0 #1 'c{i} #1 'f 0 ")).collect();
+    let declared: String = names.iter().map(|(datatype, constructor)| format!("'{datatype} #0 #1 '{constructor} #1 'f 0 ")).collect();
     filled(quarters, &format!("d: {declared} v:"), || {
-        let sorts: String = (0..SORTS_OF_A_KVAR).map(|_| format!("11 'D{} #0 ", chance.below(many))).collect();
+        let sorts: String = (0..SORTS_OF_A_KVAR).map(|_| format!("11 '{} #0 ", names[chance.below(names.len())].0)).collect();
         format!("'k #{SORTS_OF_A_KVAR} {sorts}")
     })
 }

@@ -27,9 +27,11 @@ use Rattle.smt_text.specs.Encoder.{Encoder}
 use Rattle.smt_text.specs.Text.{spaced, write-binder, write-pred}
 use Rattle.horn_text.specs.Clauses.{ForAll, kept, guardsOf}
 use Rattle.horn_text.specs.Script.{write-preds}
-use Rattle.output.specs.Emit.{Output, emit, emits, Runs, Sends}
+use Rattle.task.specs.Run.{Runs}
+use Rattle.task.proofs.Running.{runs-refused, runs-end, Steps, Owing, owing-start, owing-more, owing-end}
+use Rattle.output.specs.Emit.{Output, emit, emits, Sends}
 use Rattle.output.proofs.Sent.{emits-append}
-use Rattle.output.proofs.Sending.{runs-refused, runs-end, sends-end, Steps, Owing, owing-start, owing-more, owing-end}
+use Rattle.output.proofs.Sending.{sends-end}
 use Rattle.assertion.specs.Under.{forAllAt, onPath, varsText, keptText, ownText, guardsText, count, counts, countOwn, countAll, Counts, Passes, trueAt}
 
 -- PATHS

@@ -15,7 +15,6 @@ use Rattle.smt_text.specs.Encoder.{Encoder}
 use Rattle.smt_text.specs.Text.{spaced, write-binder}
 use Rattle.horn_text.specs.Clauses.{ForAll, kept, guardsOf}
 use Rattle.horn_text.specs.Script.{write-preds}
-use Rattle.smt_sort.specs.declared.Datatypes.{Datatypes}
 use Rattle.smt_sort.specs.Section.{encoderIn}
 use Rattle.output.specs.Emit.{Output, output, most, emits, Sends}
 use Rattle.output.proofs.Sent.{emits-sets}
@@ -162,10 +161,10 @@ set-is true e = refl
 set-is false e = clash (cc)
 
 -- of the path without ForAlls
-pub keeps-start : (s : List ℕ) (types : Datatypes) (vars guards : List ℕ) (k : code.Kept)
-    → (k .has ≡ true) × (k .vars ≡ 0) × (k .guards ≡ 0) × (k .count ≡ 0) → length vars ≤ room → length guards ≤ room → Keeps s types [] vars guards k
+pub keeps-start : (s enc : List ℕ) (vars guards : List ℕ) (k : code.Kept)
+    → (k .has ≡ true) × (k .vars ≡ 0) × (k .guards ≡ 0) × (k .count ≡ 0) → length vars ≤ room → length guards ≤ room → Keeps s enc [] vars guards k
 unfolding onPath varsText guardsText countAll
-keeps-start s types vars guards k e h h' = record {
+keeps-start s enc vars guards k e h h' = record {
   fits = record { short-vars = h; short-guards = h'; inside-vars = rw (e .1) (omega arith); inside-guards = rw (e .2) (omega arith) };
   holds = λ t fs q g.
       let y : got [] 0 ≡ got fs q = g in
@@ -177,10 +176,10 @@ keeps-start s types vars guards k e h h' = record {
 pub stays-same : (k : code.Kept) (vars guards : List ℕ) → Stays k vars guards vars guards
 stays-same k vars guards = record { size-vars = refl; size-guards = refl; same-vars = refl; same-guards = refl }
 
-module _ (s : List ℕ) (types : Datatypes) (at : ℕ) (k : code.Kept) (vars guards : List ℕ) (h : Fits vars guards k) where
+module _ (s enc : List ℕ) (at : ℕ) (k : code.Kept) (vars guards : List ℕ) (h : Fits vars guards k) where
   -- nothing of a longer path
   pub extends-none : (k' : code.Kept) (vars' guards' : List ℕ) → (k' .has ≡ false) × (k' .vars ≡ k .vars) × (k' .guards ≡ k .guards)
-      → Stays k vars guards vars' guards' → Extends s types at k k' vars guards vars' guards'
+      → Stays k vars guards vars' guards' → Extends s enc at k k' vars guards vars' guards'
   extends-none k' vars' guards' e st =
       let f0 = h .short-vars in
       let f1 = h .short-guards in
@@ -201,7 +200,7 @@ module _ (s : List ℕ) (types : Datatypes) (at : ℕ) (k : code.Kept) (vars gua
       }
 
   -- nothing was kept
-  pub extends-not : not (k .has) ≡ true → Extends s types at k k vars guards vars guards
+  pub extends-not : not (k .has) ≡ true → Extends s enc at k k vars guards vars guards
   extends-not e = extends-none k vars guards (not-set (k .has) e, refl, refl) (stays-same k vars guards)
 
   module _ (ys zs : List ℕ) (ly : length ys ≡ length (take (length vars - k .vars) (drop (k .vars) vars))) (lz : length zs ≡ length (take (length guards - k .guards) (drop (k .guards) guards))) where
@@ -217,10 +216,10 @@ module _ (s : List ℕ) (types : Datatypes) (at : ℕ) (k : code.Kept) (vars gua
 
     -- the ForAll's binder and guards were sent to them
     pub extends-both : (z z' q m n c : ℕ) → not (k .has) ≡ false → z ≡ 0
-        → Sends (write-binder (encoderIn s types)) (binder deepest s at) (output (take (length vars - k .vars) (drop (k .vars) vars)) z) (output ys m) q → m ≤ length vars - k .vars
-        → z' ≡ 0 → Sends (ownText (encoderIn s types)) (forAllAt s at) (output (take (length guards - k .guards) (drop (k .guards) guards)) z') (output zs n) 0 → n ≤ length guards - k .guards
+        → Sends (write-binder (encoderIn s enc)) (binder deepest s at) (output (take (length vars - k .vars) (drop (k .vars) vars)) z) (output ys m) q → m ≤ length vars - k .vars
+        → z' ≡ 0 → Sends (ownText (encoderIn s enc)) (forAllAt s at) (output (take (length guards - k .guards) (drop (k .guards) guards)) z') (output zs n) 0 → n ≤ length guards - k .guards
         → Counts countOwn (forAllAt s at) (k .count) c
-        → Extends s types at k (record { has = true; vars = k .vars + m; guards = k .guards + n; count = c }) vars guards
+        → Extends s enc at k (record { has = true; vars = k .vars + m; guards = k .guards + n; count = c }) vars guards
         (take (k .vars) vars ++ (ys ++ drop (length vars - k .vars) (drop (k .vars) vars))) (take (k .guards) guards ++ (zs ++ drop (length guards - k .guards) (drop (k .guards) guards)))
     unfolding Sends Counts back
     extends-both z z' q m n c t e w l e' w' l' u =
@@ -239,7 +238,7 @@ module _ (s : List ℕ) (types : Datatypes) (at : ℕ) (k : code.Kept) (vars gua
             holds = λ t' fs r g.
                 let x = snoc s path at fs r g in
                 let was = keeps .holds (set-is (k .has) t) (x .around) (x .p) (x .path) in
-                let enc = encoderIn s types in
+                let enc = encoderIn s enc in
                 rw (← (x .is)) (record {
                   vars-are =
                       back-more vars ys (k .vars) f2 ly (write-binder enc (x .last .binder)) z m e f0 (binder-runs enc s at _ _ q w (x .last) (x .r) (x .one) .1) l
@@ -253,9 +252,9 @@ module _ (s : List ℕ) (types : Datatypes) (at : ℕ) (k : code.Kept) (vars gua
         }
 
 -- what stays is kept still
-pub keeps-stays : (s : List ℕ) (types : Datatypes) (path vars guards vars' guards' : List ℕ) (k : code.Kept)
-    → Keeps s types path vars guards k → Stays k vars guards vars' guards' → Keeps s types path vars' guards' k
-keeps-stays s types path vars guards vars' guards' k h st =
+pub keeps-stays : (s enc : List ℕ) (path vars guards vars' guards' : List ℕ) (k : code.Kept)
+    → Keeps s enc path vars guards k → Stays k vars guards vars' guards' → Keeps s enc path vars' guards' k
+keeps-stays s enc path vars guards vars' guards' k h st =
     let f = h .fits in
     record {
       fits = record {
@@ -268,9 +267,9 @@ keeps-stays s types path vars guards vars' guards' k h st =
     }
 
 -- of the same path
-pub keeps-pushed : (s : List ℕ) (types : Datatypes) (path path' vars guards : List ℕ) (k : code.Kept) → path' ≡ path → Keeps s types path vars guards k
-    → Keeps s types path' vars guards k
-keeps-pushed s types path path' vars guards k e h = rw e h
+pub keeps-pushed : (s enc : List ℕ) (path path' vars guards : List ℕ) (k : code.Kept) → path' ≡ path → Keeps s enc path vars guards k
+    → Keeps s enc path' vars guards k
+keeps-pushed s enc path path' vars guards k e h = rw e h
 
 pub stays-then : (k : code.Kept) (a b a' b' a'' b'' : List ℕ) → Stays k a b a' b' → Stays k a' b' a'' b'' → Stays k a b a'' b''
 stays-then k a b a' b' a'' b'' x y = record {
@@ -285,9 +284,9 @@ fewer : (xs ys : List ℕ) (m n : ℕ) → m ≤ n → take n xs ≡ take n ys �
 fewer xs ys m n h e = sym (take-take m n xs h) ∙ ap (take m) e ∙ take-take m n ys h
 
 -- what stays of a longer path stays of the path around it
-pub stays-around : (s : List ℕ) (types : Datatypes) (at : ℕ) (k k' : code.Kept) (a b a' b' a'' b'' : List ℕ)
-    → Extends s types at k k' a b a' b' → Stays k' a' b' a'' b'' → Stays k a b a'' b''
-stays-around s types at k k' a b a' b' a'' b'' x y = stays-then k a b a' b' a'' b'' (x .stays) (record {
+pub stays-around : (s enc : List ℕ) (at : ℕ) (k k' : code.Kept) (a b a' b' a'' b'' : List ℕ)
+    → Extends s enc at k k' a b a' b' → Stays k' a' b' a'' b'' → Stays k a b a'' b''
+stays-around s enc at k k' a b a' b' a'' b'' x y = stays-then k a b a' b' a'' b'' (x .stays) (record {
   size-vars = y .size-vars;
   size-guards = y .size-guards;
   same-vars = fewer a'' a' (k .vars) (k' .vars) (x .more-vars) (y .same-vars);
@@ -295,12 +294,12 @@ stays-around s types at k k' a b a' b' a'' b'' x y = stays-then k a b a' b' a'' 
 })
 
 -- what is kept is sent and counted
-module _ (s : List ℕ) (types : Datatypes) (path vars guards : List ℕ) (k : code.Kept) (h : Keeps s types path vars guards k) (t : k .has ≡ true) where
-  pub kept-vars : (o o' : Output) → o' ≡ emits o (take (k .vars) vars) → Sends (varsText (encoderIn s types)) (onPath s path) o o' 0
+module _ (s enc : List ℕ) (path vars guards : List ℕ) (k : code.Kept) (h : Keeps s enc path vars guards k) (t : k .has ≡ true) where
+  pub kept-vars : (o o' : Output) → o' ≡ emits o (take (k .vars) vars) → Sends (varsText (encoderIn s enc)) (onPath s path) o o' 0
   unfolding Sends
   kept-vars o o' e fs q g = (on-zero s path fs q g, e ∙ ap (emits o) (h .holds t fs q g .vars-are))
 
-  pub kept-guards : (o o' : Output) → o' ≡ emits o (take (k .guards) guards) → Sends (guardsText (encoderIn s types)) (onPath s path) o o' 0
+  pub kept-guards : (o o' : Output) → o' ≡ emits o (take (k .guards) guards) → Sends (guardsText (encoderIn s enc)) (onPath s path) o o' 0
   unfolding Sends
   kept-guards o o' e fs q g = (on-zero s path fs q g, e ∙ ap (emits o) (h .holds t fs q g .guards-are))
 

@@ -14,7 +14,8 @@ use Rattle.smt_text.specs.Encoder.{Encoder}
 use Rattle.smt_text.specs.Text.{spaced, write-unary, write-binary, write-binders, write-expr, write-pred}
 use Rattle.horn_text.specs.Clauses.{ForAll, kept, bindersOf, guardsOf, clauseOf}
 use Rattle.horn_text.specs.Script.{join, write-preds, write-guard-conjunction, write-negation, write-implication, write-assert}
-use Rattle.output.specs.Emit.{Output, Runs, Sends}
+use Rattle.task.specs.Run.{Runs}
+use Rattle.output.specs.Emit.{Output, Sends}
 
 -- the ForAll whose name stands at an offset; where it ends does not matter
 unfoldable pub forAllAt : List ℕ → ℕ → Res ForAll

@@ -1,7 +1,6 @@
 // The writer of one assertion, `write_assert` of `smt_horn.rs`, from the offsets of the ForAlls around the head, or from the text that is kept
 // of them. The writers read any bytes: what they send is told for a path whose offsets are those of ForAlls, and for a head that decodes.
 use output::Out;
-use smt_sort::Datatypes;
 use smt_word::Sent;
 use task::Number;
 use task::PredNode;
@@ -12,6 +11,7 @@ ghost use mathlib.Core.List.{[], _∷_};
 ghost use Prim.Native.Nat.{_+_, min};
 ghost use Rattle.task.specs.Decode.{many, decExpr, decPred, deepest};
 ghost use Rattle.output.specs.Emit.{output, Sends};
+ghost use Rattle.names.specs.Table.{Chained};
 ghost use Rattle.smt_sort.specs.Section.{encoderIn};
 ghost use Rattle.assertion.specs.Under.{forAllAt, onPath, varsText, keptText, ownText, guardsText, count, counts, countOwn, countAll, Counts, Passes, trueAt, conjunctionText, negationText, kvarText, exprText, implicationText, assertText, HeadSends};
 ghost use Rattle.assertion.specs.Kept.{Fits, Keeps, Extends};
@@ -32,15 +32,16 @@ pub struct Kept {
 }
 
 // Sends the binders of the path, without a space between two.
-fn write_each_var(s: &[u8], path: &[usize], types: Datatypes, buf: &mut [u8], out: Out) -> Out
-    ensures { λ r. ⌜ Sends (varsText (encoderIn (now (s .entry)) types)) (onPath (now (s .entry)) (now (path .entry))) (output (now (buf .entry)) (out .len)) (output (now (buf .exit)) (r .len)) 0 ⌝ }
+fn write_each_var(s: &[u8], path: &[usize], enc: &[u16], buf: &mut [u8], out: Out) -> Out
+    requires { ⌜ Chained (now s) (now enc) ⌝ }
+    ensures { λ r. ⌜ Sends (varsText (encoderIn (now (s .entry)) (now (enc .entry)))) (onPath (now (s .entry)) (now (path .entry))) (output (now (buf .entry)) (out .len)) (output (now (buf .exit)) (r .len)) 0 ⌝ }
 {
     let n = path.len();
     let mut i: usize = 0;
     let mut sent = out;
     while i < n {
         let at = path[i];
-        let one = smt_sort::write_binder(s, at, 256, types, buf, sent);
+        let one = smt_sort::write_binder(s, at, 256, enc, buf, sent);
         sent = one.out;
         i += 1;
     }
@@ -67,8 +68,9 @@ fn is_true_at(s: &[u8], at: usize) -> bool
 }
 
 // Sends the predicate at a position with a space before it, unless it is literally true.
-fn write_guard(s: &[u8], at: usize, types: Datatypes, buf: &mut [u8], out: Out) -> Sent
-    ensures { λ r. ⌜ Sends (λ p. keptText (encoderIn (now (s .entry)) types) (p ∷ [])) (decPred deepest (now (s .entry)) at) (output (now (buf .entry)) (out .len)) (output (now (buf .exit)) (r .out .len)) (r .at) ⌝ }
+fn write_guard(s: &[u8], at: usize, enc: &[u16], buf: &mut [u8], out: Out) -> Sent
+    requires { ⌜ Chained (now s) (now enc) ⌝ }
+    ensures { λ r. ⌜ Sends (λ p. keptText (encoderIn (now (s .entry)) (now (enc .entry))) (p ∷ [])) (decPred deepest (now (s .entry)) at) (output (now (buf .entry)) (out .len)) (output (now (buf .exit)) (r .out .len)) (r .at) ⌝ }
 {
     if is_true_at(s, at) {
         return Sent { at: at + 3, out };
@@ -81,18 +83,19 @@ fn write_guard(s: &[u8], at: usize, types: Datatypes, buf: &mut [u8], out: Out) 
         return Sent { at: p, out };
     }
     let spaced = out.byte(buf, b' ');
-    smt_fmt::write_pred(s, at, 256, types, buf, spaced)
+    smt_fmt::write_pred(s, at, 256, enc, buf, spaced)
 }
 
 // Sends those of n predicates that are not literally true, a space before each.
-fn write_kept(s: &[u8], at: usize, n: u64, types: Datatypes, buf: &mut [u8], out: Out) -> Sent
-    ensures { λ r. ⌜ Sends (keptText (encoderIn (now (s .entry)) types)) (many [] _∷_ (decPred deepest) n (now (s .entry)) at) (output (now (buf .entry)) (out .len)) (output (now (buf .exit)) (r .out .len)) (r .at) ⌝ }
+fn write_kept(s: &[u8], at: usize, n: u64, enc: &[u16], buf: &mut [u8], out: Out) -> Sent
+    requires { ⌜ Chained (now s) (now enc) ⌝ }
+    ensures { λ r. ⌜ Sends (keptText (encoderIn (now (s .entry)) (now (enc .entry)))) (many [] _∷_ (decPred deepest) n (now (s .entry)) at) (output (now (buf .entry)) (out .len)) (output (now (buf .exit)) (r .out .len)) (r .at) ⌝ }
 {
     let mut p = at;
     let mut left = n;
     let mut sent = out;
     while 0 < left {
-        let one = write_guard(s, p, types, buf, sent);
+        let one = write_guard(s, p, enc, buf, sent);
         p = one.at;
         sent = one.out;
         left -= 1;
@@ -101,8 +104,9 @@ fn write_kept(s: &[u8], at: usize, n: u64, types: Datatypes, buf: &mut [u8], out
 }
 
 // Sends those of the ForAll at an offset.
-fn write_own_guards(s: &[u8], at: usize, types: Datatypes, buf: &mut [u8], out: Out) -> Out
-    ensures { λ r. ⌜ Sends (ownText (encoderIn (now (s .entry)) types)) (forAllAt (now (s .entry)) at) (output (now (buf .entry)) (out .len)) (output (now (buf .exit)) (r .len)) 0 ⌝ }
+fn write_own_guards(s: &[u8], at: usize, enc: &[u16], buf: &mut [u8], out: Out) -> Out
+    requires { ⌜ Chained (now s) (now enc) ⌝ }
+    ensures { λ r. ⌜ Sends (ownText (encoderIn (now (s .entry)) (now (enc .entry)))) (forAllAt (now (s .entry)) at) (output (now (buf .entry)) (out .len)) (output (now (buf .exit)) (r .len)) 0 ⌝ }
 {
     let binder = task_check::check_binder(s, at, 256);
     let Walked::Next(p, _) = binder else {
@@ -112,20 +116,21 @@ fn write_own_guards(s: &[u8], at: usize, types: Datatypes, buf: &mut [u8], out: 
     let Number::Value(n, q) = number else {
         return out;
     };
-    let kept = write_kept(s, q, n, types, buf, out);
+    let kept = write_kept(s, q, n, enc, buf, out);
     kept.out
 }
 
 // Sends those of the path.
-fn write_each_guard(s: &[u8], path: &[usize], types: Datatypes, buf: &mut [u8], out: Out) -> Out
-    ensures { λ r. ⌜ Sends (guardsText (encoderIn (now (s .entry)) types)) (onPath (now (s .entry)) (now (path .entry))) (output (now (buf .entry)) (out .len)) (output (now (buf .exit)) (r .len)) 0 ⌝ }
+fn write_each_guard(s: &[u8], path: &[usize], enc: &[u16], buf: &mut [u8], out: Out) -> Out
+    requires { ⌜ Chained (now s) (now enc) ⌝ }
+    ensures { λ r. ⌜ Sends (guardsText (encoderIn (now (s .entry)) (now (enc .entry)))) (onPath (now (s .entry)) (now (path .entry))) (output (now (buf .entry)) (out .len)) (output (now (buf .exit)) (r .len)) 0 ⌝ }
 {
     let n = path.len();
     let mut i: usize = 0;
     let mut sent = out;
     while i < n {
         let at = path[i];
-        sent = write_own_guards(s, at, types, buf, sent);
+        sent = write_own_guards(s, at, enc, buf, sent);
         i += 1;
     }
     sent
@@ -243,13 +248,14 @@ impl Kept {
 pub fn extend(
     s: &[u8],
     at: usize,
-    types: Datatypes,
+    enc: &[u16],
     vars: &mut [u8],
     guards: &mut [u8],
     kept: Kept,
 ) -> Kept
+    requires { ⌜ Chained (now s) (now enc) ⌝ }
     requires { ⌜ Fits (now vars) (now guards) kept ⌝ }
-    ensures { λ r. ⌜ Extends (now (s .entry)) types at kept r (now (vars .entry)) (now (guards .entry)) (now (vars .exit)) (now (guards .exit)) ⌝ }
+    ensures { λ r. ⌜ Extends (now (s .entry)) (now (enc .entry)) at kept r (now (vars .entry)) (now (guards .entry)) (now (vars .exit)) (now (guards .exit)) ⌝ }
 {
     if !kept.has {
         return kept;
@@ -258,8 +264,8 @@ pub fn extend(
     let g = kept.guards;
     let vars_left = vars.len() - v;
     let guards_left = guards.len() - g;
-    let binder = smt_sort::write_binder(s, at, 256, types, &mut vars[v..], Out::new());
-    let own = write_own_guards(s, at, types, &mut guards[g..], Out::new());
+    let binder = smt_sort::write_binder(s, at, 256, enc, &mut vars[v..], Out::new());
+    let own = write_own_guards(s, at, enc, &mut guards[g..], Out::new());
     let sent = binder.out;
     let m = sent.len;
     let n = own.len;
@@ -284,18 +290,19 @@ fn write_vars(
     vars: &[u8],
     guards: &[u8],
     kept: Kept,
-    types: Datatypes,
+    enc: &[u16],
     buf: &mut [u8],
     out: Out,
 ) -> Out
-    requires { ⌜ Keeps (now s) types (now path) (now vars) (now guards) kept ⌝ }
-    ensures { λ r. ⌜ Sends (varsText (encoderIn (now (s .entry)) types)) (onPath (now (s .entry)) (now (path .entry))) (output (now (buf .entry)) (out .len)) (output (now (buf .exit)) (r .len)) 0 ⌝ }
+    requires { ⌜ Chained (now s) (now enc) ⌝ }
+    requires { ⌜ Keeps (now s) (now enc) (now path) (now vars) (now guards) kept ⌝ }
+    ensures { λ r. ⌜ Sends (varsText (encoderIn (now (s .entry)) (now (enc .entry)))) (onPath (now (s .entry)) (now (path .entry))) (output (now (buf .entry)) (out .len)) (output (now (buf .exit)) (r .len)) 0 ⌝ }
 {
     if kept.has {
         let n = kept.vars;
         return out.bytes(buf, &vars[..n]);
     }
-    write_each_var(s, path, types, buf, out)
+    write_each_var(s, path, enc, buf, out)
 }
 
 // Sends its guards, from what is kept if they are.
@@ -305,18 +312,19 @@ fn write_guards(
     vars: &[u8],
     guards: &[u8],
     kept: Kept,
-    types: Datatypes,
+    enc: &[u16],
     buf: &mut [u8],
     out: Out,
 ) -> Out
-    requires { ⌜ Keeps (now s) types (now path) (now vars) (now guards) kept ⌝ }
-    ensures { λ r. ⌜ Sends (guardsText (encoderIn (now (s .entry)) types)) (onPath (now (s .entry)) (now (path .entry))) (output (now (buf .entry)) (out .len)) (output (now (buf .exit)) (r .len)) 0 ⌝ }
+    requires { ⌜ Chained (now s) (now enc) ⌝ }
+    requires { ⌜ Keeps (now s) (now enc) (now path) (now vars) (now guards) kept ⌝ }
+    ensures { λ r. ⌜ Sends (guardsText (encoderIn (now (s .entry)) (now (enc .entry)))) (onPath (now (s .entry)) (now (path .entry))) (output (now (buf .entry)) (out .len)) (output (now (buf .exit)) (r .len)) 0 ⌝ }
 {
     if kept.has {
         let n = kept.guards;
         return out.bytes(buf, &guards[..n]);
     }
-    write_each_guard(s, path, types, buf, out)
+    write_each_guard(s, path, enc, buf, out)
 }
 
 // Counts its guards, up to 2, or takes the count that is kept.
@@ -326,9 +334,9 @@ fn count_guards(
     vars: &[u8],
     guards: &[u8],
     kept: Kept,
-    types: Datatypes,
+    enc: &[u16],
 ) -> u64
-    requires { ⌜ Keeps (now s) types (now path) (now vars) (now guards) kept ⌝ }
+    requires { ⌜ Keeps (now s) (now enc) (now path) (now vars) (now guards) kept ⌝ }
     ensures { λ r. ⌜ Counts countAll (onPath (now (s .entry)) (now (path .entry))) 0 r ⌝ }
 {
     if kept.has {
@@ -344,22 +352,23 @@ fn write_guard_conjunction(
     vars: &[u8],
     guards: &[u8],
     kept: Kept,
-    types: Datatypes,
+    enc: &[u16],
     buf: &mut [u8],
     out: Out,
 ) -> Out
-    requires { ⌜ Keeps (now s) types (now path) (now vars) (now guards) kept ⌝ }
-    ensures { λ r. ⌜ Sends (conjunctionText (encoderIn (now (s .entry)) types)) (onPath (now (s .entry)) (now (path .entry))) (output (now (buf .entry)) (out .len)) (output (now (buf .exit)) (r .len)) 0 ⌝ }
+    requires { ⌜ Chained (now s) (now enc) ⌝ }
+    requires { ⌜ Keeps (now s) (now enc) (now path) (now vars) (now guards) kept ⌝ }
+    ensures { λ r. ⌜ Sends (conjunctionText (encoderIn (now (s .entry)) (now (enc .entry)))) (onPath (now (s .entry)) (now (path .entry))) (output (now (buf .entry)) (out .len)) (output (now (buf .exit)) (r .len)) 0 ⌝ }
 {
-    let count = count_guards(s, path, vars, guards, kept, types);
+    let count = count_guards(s, path, vars, guards, kept, enc);
     if count == 0 {
         return out.bytes(buf, b" true");
     }
     if count == 1 {
-        return write_guards(s, path, vars, guards, kept, types, buf, out);
+        return write_guards(s, path, vars, guards, kept, enc, buf, out);
     }
     let opened = out.bytes(buf, b" (and");
-    let listed = write_guards(s, path, vars, guards, kept, types, buf, opened);
+    let listed = write_guards(s, path, vars, guards, kept, enc, buf, opened);
     listed.byte(buf, b')')
 }
 
@@ -372,17 +381,18 @@ fn write_negation(
     kept: Kept,
     at: usize,
     levels: usize,
-    types: Datatypes,
+    enc: &[u16],
     buf: &mut [u8],
     out: Out,
 ) -> Sent
-    requires { ⌜ Keeps (now s) types (now path) (now vars) (now guards) kept ⌝ }
-    ensures { λ r. ⌜ HeadSends (negationText (encoderIn (now (s .entry)) types)) (onPath (now (s .entry)) (now (path .entry))) (decExpr levels (now (s .entry)) at) (output (now (buf .entry)) (out .len)) (output (now (buf .exit)) (r .out .len)) (r .at) ⌝ }
+    requires { ⌜ Chained (now s) (now enc) ⌝ }
+    requires { ⌜ Keeps (now s) (now enc) (now path) (now vars) (now guards) kept ⌝ }
+    ensures { λ r. ⌜ HeadSends (negationText (encoderIn (now (s .entry)) (now (enc .entry)))) (onPath (now (s .entry)) (now (path .entry))) (decExpr levels (now (s .entry)) at) (output (now (buf .entry)) (out .len)) (output (now (buf .exit)) (r .out .len)) (r .at) ⌝ }
 {
-    let count = count_guards(s, path, vars, guards, kept, types);
+    let count = count_guards(s, path, vars, guards, kept, enc);
     if count == 0 {
         let opened = out.bytes(buf, b" (not ");
-        let expr = smt_expr::write_expr(s, at, levels, types, buf, opened);
+        let expr = smt_expr::write_expr(s, at, levels, enc, buf, opened);
         let sent = expr.out;
         let closed = sent.byte(buf, b')');
         return Sent {
@@ -391,9 +401,9 @@ fn write_negation(
         };
     }
     let opened = out.bytes(buf, b" (and");
-    let listed = write_guards(s, path, vars, guards, kept, types, buf, opened);
+    let listed = write_guards(s, path, vars, guards, kept, enc, buf, opened);
     let negated = listed.bytes(buf, b" (not ");
-    let expr = smt_expr::write_expr(s, at, levels, types, buf, negated);
+    let expr = smt_expr::write_expr(s, at, levels, enc, buf, negated);
     let sent = expr.out;
     let closed = sent.bytes(buf, b"))");
     Sent {
@@ -411,17 +421,18 @@ fn write_kvar_head(
     kept: Kept,
     at: usize,
     levels: usize,
-    types: Datatypes,
+    enc: &[u16],
     buf: &mut [u8],
     out: Out,
 ) -> Sent
-    requires { ⌜ Keeps (now s) types (now path) (now vars) (now guards) kept ⌝ }
-    ensures { λ r. ⌜ HeadSends (kvarText (encoderIn (now (s .entry)) types)) (onPath (now (s .entry)) (now (path .entry))) (decPred levels (now (s .entry)) at) (output (now (buf .entry)) (out .len)) (output (now (buf .exit)) (r .out .len)) (r .at) ⌝ }
+    requires { ⌜ Chained (now s) (now enc) ⌝ }
+    requires { ⌜ Keeps (now s) (now enc) (now path) (now vars) (now guards) kept ⌝ }
+    ensures { λ r. ⌜ HeadSends (kvarText (encoderIn (now (s .entry)) (now (enc .entry)))) (onPath (now (s .entry)) (now (path .entry))) (decPred levels (now (s .entry)) at) (output (now (buf .entry)) (out .len)) (output (now (buf .exit)) (r .out .len)) (r .at) ⌝ }
 {
     let opened = out.bytes(buf, b"(=>");
-    let guarded = write_guard_conjunction(s, path, vars, guards, kept, types, buf, opened);
+    let guarded = write_guard_conjunction(s, path, vars, guards, kept, enc, buf, opened);
     let spaced = guarded.byte(buf, b' ');
-    let head = smt_fmt::write_pred(s, at, levels, types, buf, spaced);
+    let head = smt_fmt::write_pred(s, at, levels, enc, buf, spaced);
     let sent = head.out;
     let closed = sent.byte(buf, b')');
     Sent {
@@ -439,15 +450,16 @@ fn write_expr_head(
     kept: Kept,
     at: usize,
     levels: usize,
-    types: Datatypes,
+    enc: &[u16],
     buf: &mut [u8],
     out: Out,
 ) -> Sent
-    requires { ⌜ Keeps (now s) types (now path) (now vars) (now guards) kept ⌝ }
-    ensures { λ r. ⌜ HeadSends (exprText (encoderIn (now (s .entry)) types)) (onPath (now (s .entry)) (now (path .entry))) (decExpr levels (now (s .entry)) at) (output (now (buf .entry)) (out .len)) (output (now (buf .exit)) (r .out .len)) (r .at) ⌝ }
+    requires { ⌜ Chained (now s) (now enc) ⌝ }
+    requires { ⌜ Keeps (now s) (now enc) (now path) (now vars) (now guards) kept ⌝ }
+    ensures { λ r. ⌜ HeadSends (exprText (encoderIn (now (s .entry)) (now (enc .entry)))) (onPath (now (s .entry)) (now (path .entry))) (decExpr levels (now (s .entry)) at) (output (now (buf .entry)) (out .len)) (output (now (buf .exit)) (r .out .len)) (r .at) ⌝ }
 {
     let opened = out.bytes(buf, b"(=>");
-    let negation = write_negation(s, path, vars, guards, kept, at, levels, types, buf, opened);
+    let negation = write_negation(s, path, vars, guards, kept, at, levels, enc, buf, opened);
     let sent = negation.out;
     let closed = sent.bytes(buf, b" false)");
     Sent {
@@ -465,12 +477,13 @@ fn write_implication(
     kept: Kept,
     at: usize,
     levels: usize,
-    types: Datatypes,
+    enc: &[u16],
     buf: &mut [u8],
     out: Out,
 ) -> Sent
-    requires { ⌜ Keeps (now s) types (now path) (now vars) (now guards) kept ⌝ }
-    ensures { λ r. ⌜ HeadSends (implicationText (encoderIn (now (s .entry)) types)) (onPath (now (s .entry)) (now (path .entry))) (decPred levels (now (s .entry)) at) (output (now (buf .entry)) (out .len)) (output (now (buf .exit)) (r .out .len)) (r .at) ⌝ }
+    requires { ⌜ Chained (now s) (now enc) ⌝ }
+    requires { ⌜ Keeps (now s) (now enc) (now path) (now vars) (now guards) kept ⌝ }
+    ensures { λ r. ⌜ HeadSends (implicationText (encoderIn (now (s .entry)) (now (enc .entry)))) (onPath (now (s .entry)) (now (path .entry))) (decPred levels (now (s .entry)) at) (output (now (buf .entry)) (out .len)) (output (now (buf .exit)) (r .out .len)) (r .at) ⌝ }
 {
     if levels == 0 {
         return Sent { at, out };
@@ -486,22 +499,11 @@ fn write_implication(
             kept,
             at,
             levels,
-            types,
+            enc,
             buf,
             out,
         ),
-        PredNode::Expr(p) => write_expr_head(
-            s,
-            path,
-            vars,
-            guards,
-            kept,
-            p,
-            below,
-            types,
-            buf,
-            out,
-        ),
+        PredNode::Expr(p) => write_expr_head(s, path, vars, guards, kept, p, below, enc, buf, out),
         PredNode::Refused => Sent { at, out },
     }
 }
@@ -515,16 +517,17 @@ pub fn write_assert(
     kept: Kept,
     at: usize,
     levels: usize,
-    types: Datatypes,
+    enc: &[u16],
     buf: &mut [u8],
     out: Out,
 ) -> Sent
-    requires { ⌜ Keeps (now s) types (now path) (now vars) (now guards) kept ⌝ }
-    ensures { λ r. ⌜ HeadSends (assertText (encoderIn (now (s .entry)) types)) (onPath (now (s .entry)) (now (path .entry))) (decPred levels (now (s .entry)) at) (output (now (buf .entry)) (out .len)) (output (now (buf .exit)) (r .out .len)) (r .at) ⌝ }
+    requires { ⌜ Chained (now s) (now enc) ⌝ }
+    requires { ⌜ Keeps (now s) (now enc) (now path) (now vars) (now guards) kept ⌝ }
+    ensures { λ r. ⌜ HeadSends (assertText (encoderIn (now (s .entry)) (now (enc .entry)))) (onPath (now (s .entry)) (now (path .entry))) (decPred levels (now (s .entry)) at) (output (now (buf .entry)) (out .len)) (output (now (buf .exit)) (r .out .len)) (r .at) ⌝ }
 {
     let opened = out.bytes(buf, b"(assert ");
     if path.len() == 0 {
-        let body = write_implication(s, path, vars, guards, kept, at, levels, types, buf, opened);
+        let body = write_implication(s, path, vars, guards, kept, at, levels, enc, buf, opened);
         let sent = body.out;
         let closed = sent.bytes(buf, b")\n");
         return Sent {
@@ -533,9 +536,9 @@ pub fn write_assert(
         };
     }
     let quantified = opened.bytes(buf, b"(forall (");
-    let bound = write_vars(s, path, vars, guards, kept, types, buf, quantified);
+    let bound = write_vars(s, path, vars, guards, kept, enc, buf, quantified);
     let parted = bound.bytes(buf, b") ");
-    let body = write_implication(s, path, vars, guards, kept, at, levels, types, buf, parted);
+    let body = write_implication(s, path, vars, guards, kept, at, levels, enc, buf, parted);
     let sent = body.out;
     let closed = sent.bytes(buf, b"))\n");
     Sent {

@@ -6,6 +6,7 @@ use libc::STDOUT_FILENO;
 use smt_horn::Surveyed;
 ghost use Prim.Native.Nat.{_<_, _≤_};
 ghost use Rattle.inspect.specs.Walk.{Inside};
+ghost use Rattle.names.specs.Table.{Chained};
 
 // Writes the script, or `refused N`: survey's number, or 9 if a part is longer than the 65,536 bytes that are written at once.
 pub fn print_script(file: &[u8]) {
@@ -29,25 +30,27 @@ pub fn print_refused(n: u64) {
     io::write_all(STDOUT_FILENO, b"\n");
 }
 
-// Writes the first n parts of a file that holds a task.
+// Writes the first n parts of a file that holds a task, with a table of the names that it declares.
 fn print_parts(file: &[u8], n: usize) {
     let inspected = inspect::inspect(file);
     let Inspected::Task(b, _, _) = inspected else {
         return;
     };
-    print_all(file, b, n);
+    let mut table = [0u16; 61026];
+    declared::declare(file, b, &mut table);
+    print_all(file, b, &table, n);
 }
 
 // Writes n parts by as many at once as the buffer has room for: twice as many where half of it was enough, half as many where it was not.
-fn print_all(file: &[u8], b: Bounds, n: usize)
-    requires { ⌜ Inside (now file) b ⌝ }
+fn print_all(file: &[u8], b: Bounds, enc: &[u16], n: usize)
+    requires { ⌜ Inside (now file) b × Chained (now file) (now enc) ⌝ }
 {
     let mut buffer = io::large_buffer();
     let mut from: usize = 0;
     let mut step: usize = 1;
     while from < n {
         let to = output::sum(from, step);
-        let put = parts::write_smt_horn(file, b, Range { from, to }, &mut buffer);
+        let put = parts::write_smt_horn(file, b, enc, Range { from, to }, &mut buffer);
         let len = put.len;
         if len <= 65536 {
             io::write_all(STDOUT_FILENO, &buffer[..len]);

@@ -28,7 +28,7 @@ use Rattle.horn_text.specs.Clauses.{ForAll, bindersOf, guardsOf, flatten-constr
 use Rattle.horn_text.specs.Script.{write-assert, write-asserts}
 use Rattle.horn_text.proofs.Places.{binders-snoc, guards-snoc}
 use Rattle.output.specs.Emit.{output, most}
-use Rattle.output.proofs.Sending.{runs-refused, runs-end, runs-then, Steps, Owing, owing-start, owing-more, owing-end}
+use Rattle.task.proofs.Running.{runs-refused, runs-end, runs-then, Steps, Owing, owing-start, owing-more, owing-end}
 use Rattle.assertion.specs.Under.{forAllAt, onPath, assertText, HeadSends}
 use Rattle.assertion.proofs.Keeping.{on-cons}
 use Rattle.flatten.specs.declared.Range.{Range}

@@ -1,4 +1,3 @@
 pub mod Lending
 pub mod Flattening
 pub mod Totals
-pub mod Sections

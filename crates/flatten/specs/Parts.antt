@@ -12,7 +12,8 @@ use Rattle.task.specs.Decode.{Res, got}
 use Rattle.smt_text.specs.Encoder.{Encoder}
 use Rattle.horn_text.specs.Clauses.{ForAll, bindersOf, guardsOf, flatten-constraint, flatten-constraints}
 use Rattle.horn_text.specs.Script.{write-asserts}
-use Rattle.output.specs.Emit.{most, Runs}
+use Rattle.task.specs.Run.{Runs}
+use Rattle.output.specs.Emit.{most}
 use Rattle.assertion.specs.Under.{assertText}
 use Rattle.flatten.specs.declared.Range.{Range}
 use Rattle.flatten.specs.declared.Progress.{Progress}

@@ -3,7 +3,6 @@
 use assertion::Kept;
 use constraint_check::Path;
 use output::Out;
-use smt_sort::Datatypes;
 use task::ConstraintNode;
 use task::Number;
 use task_check::Walked;
@@ -14,6 +13,7 @@ ghost use lib.ListN.{length};
 ghost use Rattle.task.specs.Ast.{Constraints};
 ghost use Rattle.task.specs.Decode.{many, decPred, decConstraint};
 ghost use Rattle.constraint_check.specs.Around.{forAll};
+ghost use Rattle.names.specs.Table.{Chained};
 ghost use Rattle.smt_sort.specs.Section.{encoderIn};
 ghost use Rattle.assertion.specs.Kept.{Keeps, Stays};
 ghost use Rattle.assertion.specs.Under.{onPath};
@@ -107,13 +107,14 @@ fn put_assert(
     vars: &[u8],
     guards: &[u8],
     kept: Kept,
-    types: Datatypes,
+    enc: &[u16],
     range: Range,
     buf: &mut [u8],
     p: Progress,
 ) -> Moved
-    requires { ⌜ Keeps (now s) types (now path) (now vars) (now guards) kept ⌝ }
-    ensures { λ r. ⌜ PutsUnder (assertPart (encoderIn (now (s .entry)) types)) range (onPath (now (s .entry)) (now (path .entry))) (decPred levels (now (s .entry)) at) (writing p (now (buf .entry))) (writing (r .progress) (now (buf .exit))) (r .at) ⌝ }
+    requires { ⌜ Chained (now s) (now enc) ⌝ }
+    requires { ⌜ Keeps (now s) (now enc) (now path) (now vars) (now guards) kept ⌝ }
+    ensures { λ r. ⌜ PutsUnder (assertPart (encoderIn (now (s .entry)) (now (enc .entry)))) range (onPath (now (s .entry)) (now (path .entry))) (decPred levels (now (s .entry)) at) (writing p (now (buf .entry))) (writing (r .progress) (now (buf .exit))) (r .at) ⌝ }
 {
     let seen = p.seen;
     if range.has(seen) {
@@ -128,7 +129,7 @@ fn put_assert(
             kept,
             at,
             levels,
-            types,
+            enc,
             &mut buf[start..],
             none,
         );
@@ -157,13 +158,14 @@ fn flatten_head(
     vars: &[u8],
     guards: &[u8],
     kept: Kept,
-    types: Datatypes,
+    enc: &[u16],
     range: Range,
     buf: &mut [u8],
     p: Progress,
 ) -> Moved
-    requires { ⌜ Keeps (now s) types (now path) (now vars) (now guards) kept ⌝ }
-    ensures { λ r. ⌜ PutsUnder (headParts (encoderIn (now (s .entry)) types)) range (onPath (now (s .entry)) (now (path .entry))) (decPred levels (now (s .entry)) at) (writing p (now (buf .entry))) (writing (r .progress) (now (buf .exit))) (r .at) ⌝ }
+    requires { ⌜ Chained (now s) (now enc) ⌝ }
+    requires { ⌜ Keeps (now s) (now enc) (now path) (now vars) (now guards) kept ⌝ }
+    ensures { λ r. ⌜ PutsUnder (headParts (encoderIn (now (s .entry)) (now (enc .entry)))) range (onPath (now (s .entry)) (now (path .entry))) (decPred levels (now (s .entry)) at) (writing p (now (buf .entry))) (writing (r .progress) (now (buf .exit))) (r .at) ⌝ }
 {
     if task_check::is_literally_true(s, at, levels) {
         let walked = task_check::check_pred(s, at, levels);
@@ -172,19 +174,7 @@ fn flatten_head(
         };
         return Moved { at: q, progress: p };
     }
-    put_assert(
-        s,
-        at,
-        levels,
-        path,
-        vars,
-        guards,
-        kept,
-        types,
-        range,
-        buf,
-        p,
-    )
+    put_assert(s, at, levels, path, vars, guards, kept, enc, range, buf, p)
 }
 
 // The constraint at a position, inside the ForAlls of the path.
@@ -193,7 +183,7 @@ pub fn flatten_constraint(
     at: usize,
     levels: usize,
     path: &[usize],
-    types: Datatypes,
+    enc: &[u16],
     range: Range,
     buf: &mut [u8],
     p: Progress,
@@ -201,8 +191,9 @@ pub fn flatten_constraint(
     guards: &mut [u8],
     kept: Kept,
 ) -> Moved
-    requires { ⌜ (length (now path) + levels ≤ 256) × Keeps (now s) types (now path) (now vars) (now guards) kept ⌝ }
-    ensures { λ r. ⌜ PutsUnder (clauseParts (encoderIn (now (s .entry)) types)) range (onPath (now (s .entry)) (now (path .entry))) (decConstraint levels (now (s .entry)) at) (writing p (now (buf .entry))) (writing (r .progress) (now (buf .exit))) (r .at) ⌝ }
+    requires { ⌜ Chained (now s) (now enc) ⌝ }
+    requires { ⌜ (length (now path) + levels ≤ 256) × Keeps (now s) (now enc) (now path) (now vars) (now guards) kept ⌝ }
+    ensures { λ r. ⌜ PutsUnder (clauseParts (encoderIn (now (s .entry)) (now (enc .entry)))) range (onPath (now (s .entry)) (now (path .entry))) (decConstraint levels (now (s .entry)) at) (writing p (now (buf .entry))) (writing (r .progress) (now (buf .exit))) (r .at) ⌝ }
     ensures { λ r. ⌜ Stays kept (now (vars .entry)) (now (guards .entry)) (now (vars .exit)) (now (guards .exit)) ⌝ }
 {
     let stays = Moved { at, progress: p };
@@ -213,26 +204,13 @@ pub fn flatten_constraint(
     let node = task::read_constraint_node(s, at);
     match node {
         ConstraintNode::Pred(q) => {
-            flatten_head(s, q, below, path, vars, guards, kept, types, range, buf, p)
+            flatten_head(s, q, below, path, vars, guards, kept, enc, range, buf, p)
         }
         ConstraintNode::Conj(n, q) => {
-            flatten_members(
-                s,
-                q,
-                n,
-                below,
-                path,
-                types,
-                range,
-                buf,
-                p,
-                vars,
-                guards,
-                kept,
-            )
+            flatten_members(s, q, n, below, path, enc, range, buf, p, vars, guards, kept)
         }
         ConstraintNode::ForAll(q) => {
-            flatten_for_all(s, q, below, path, types, range, buf, p, vars, guards, kept)
+            flatten_for_all(s, q, below, path, enc, range, buf, p, vars, guards, kept)
         }
         ConstraintNode::Refused => stays,
     }
@@ -245,7 +223,7 @@ fn flatten_members(
     n: u64,
     levels: usize,
     path: &[usize],
-    types: Datatypes,
+    enc: &[u16],
     range: Range,
     buf: &mut [u8],
     p: Progress,
@@ -253,8 +231,9 @@ fn flatten_members(
     guards: &mut [u8],
     kept: Kept,
 ) -> Moved
-    requires { ⌜ (length (now path) + levels ≤ 256) × Keeps (now s) types (now path) (now vars) (now guards) kept ⌝ }
-    ensures { λ r. ⌜ PutsUnder (memberParts (encoderIn (now (s .entry)) types)) range (onPath (now (s .entry)) (now (path .entry))) (many Constraints.none Constraints.more (decConstraint levels) n (now (s .entry)) at) (writing p (now (buf .entry))) (writing (r .progress) (now (buf .exit))) (r .at) ⌝ }
+    requires { ⌜ Chained (now s) (now enc) ⌝ }
+    requires { ⌜ (length (now path) + levels ≤ 256) × Keeps (now s) (now enc) (now path) (now vars) (now guards) kept ⌝ }
+    ensures { λ r. ⌜ PutsUnder (memberParts (encoderIn (now (s .entry)) (now (enc .entry)))) range (onPath (now (s .entry)) (now (path .entry))) (many Constraints.none Constraints.more (decConstraint levels) n (now (s .entry)) at) (writing p (now (buf .entry))) (writing (r .progress) (now (buf .exit))) (r .at) ⌝ }
     ensures { λ r. ⌜ Stays kept (now (vars .entry)) (now (guards .entry)) (now (vars .exit)) (now (guards .exit)) ⌝ }
 {
     let mut q = at;
@@ -266,7 +245,7 @@ fn flatten_members(
             q,
             levels,
             path,
-            types,
+            enc,
             range,
             buf,
             progress,
@@ -287,7 +266,7 @@ fn flatten_for_all(
     at: usize,
     levels: usize,
     path: &[usize],
-    types: Datatypes,
+    enc: &[u16],
     range: Range,
     buf: &mut [u8],
     p: Progress,
@@ -295,8 +274,9 @@ fn flatten_for_all(
     guards: &mut [u8],
     kept: Kept,
 ) -> Moved
-    requires { ⌜ (length (now path) + levels < 256) × Keeps (now s) types (now path) (now vars) (now guards) kept ⌝ }
-    ensures { λ r. ⌜ PutsUnder (clauseParts (encoderIn (now (s .entry)) types)) range (onPath (now (s .entry)) (now (path .entry))) (forAll levels (now (s .entry)) at) (writing p (now (buf .entry))) (writing (r .progress) (now (buf .exit))) (r .at) ⌝ }
+    requires { ⌜ Chained (now s) (now enc) ⌝ }
+    requires { ⌜ (length (now path) + levels < 256) × Keeps (now s) (now enc) (now path) (now vars) (now guards) kept ⌝ }
+    ensures { λ r. ⌜ PutsUnder (clauseParts (encoderIn (now (s .entry)) (now (enc .entry)))) range (onPath (now (s .entry)) (now (path .entry))) (forAll levels (now (s .entry)) at) (writing p (now (buf .entry))) (writing (r .progress) (now (buf .exit))) (r .at) ⌝ }
     ensures { λ r. ⌜ Stays kept (now (vars .entry)) (now (guards .entry)) (now (vars .exit)) (now (guards .exit)) ⌝ }
 {
     let stays = Moved { at, progress: p };
@@ -318,7 +298,7 @@ fn flatten_for_all(
         levels,
         at,
         path,
-        types,
+        enc,
         range,
         buf,
         p,
@@ -335,7 +315,7 @@ fn flatten_body(
     levels: usize,
     offset: usize,
     path: &[usize],
-    types: Datatypes,
+    enc: &[u16],
     range: Range,
     buf: &mut [u8],
     p: Progress,
@@ -343,11 +323,12 @@ fn flatten_body(
     guards: &mut [u8],
     kept: Kept,
 ) -> Moved
-    requires { ⌜ (length (now path) + levels < 256) × Keeps (now s) types (now path) (now vars) (now guards) kept ⌝ }
-    ensures { λ r. ⌜ PutsUnder (clauseParts (encoderIn (now (s .entry)) types)) range (onPath (now (s .entry)) (now (path .entry) ++ offset ∷ [])) (decConstraint levels (now (s .entry)) at) (writing p (now (buf .entry))) (writing (r .progress) (now (buf .exit))) (r .at) ⌝ }
+    requires { ⌜ Chained (now s) (now enc) ⌝ }
+    requires { ⌜ (length (now path) + levels < 256) × Keeps (now s) (now enc) (now path) (now vars) (now guards) kept ⌝ }
+    ensures { λ r. ⌜ PutsUnder (clauseParts (encoderIn (now (s .entry)) (now (enc .entry)))) range (onPath (now (s .entry)) (now (path .entry) ++ offset ∷ [])) (decConstraint levels (now (s .entry)) at) (writing p (now (buf .entry))) (writing (r .progress) (now (buf .exit))) (r .at) ⌝ }
     ensures { λ r. ⌜ Stays kept (now (vars .entry)) (now (guards .entry)) (now (vars .exit)) (now (guards .exit)) ⌝ }
 {
-    let own = assertion::extend(s, offset, types, vars, guards, kept);
+    let own = assertion::extend(s, offset, enc, vars, guards, kept);
     let inner = Path::push(path, offset);
     let offsets = inner.offsets;
     let n = inner.depth;
@@ -356,7 +337,7 @@ fn flatten_body(
         at,
         levels,
         &offsets[..n],
-        types,
+        enc,
         range,
         buf,
         p,

@@ -27,7 +27,7 @@ use Rattle.horn_text.specs.Demand.{Accepted, Refused, Demand1, nth, part
 use Rattle.horn_text.proofs.Readings.{script-reading, script-read, first-assertions, assertions-number}
 use Rattle.horn_text.proofs.Places.{clauses-placed, clauses-number, parts-number}
 use Rattle.horn_text.proofs.Lines.{parts-lined}
-use Rattle.horn_text.proofs.Opened.{cond-got}
+use Rattle.task.proofs.Opened.{cond-got}
 use Rattle.horn_text.proofs.Lengths.{script-short}
 use Rattle.horn_text.proofs.Refusals.{refusals}
 use Rattle.horn_text.proofs.Returned.{script-returns}

@@ -22,7 +22,7 @@ use Rattle.smt_text.proofs.Bounds.{Costs, refused, free, _⟫_, names, texts, r
 use Rattle.horn_text.specs.Clauses.{HornClause, kept, flatten-constraint, flatten-constraints}
 use Rattle.horn_text.specs.Script.{join, write-preds, write-guard-conjunction, write-negation, write-implication, write-forall, write-assert, write-asserts, write-comment, opening, closing}
 use Rattle.horn_text.specs.Theorems.{ScriptShort}
-use Rattle.horn_text.proofs.Opened.{opened}
+use Rattle.task.proofs.Opened.{opened}
 
 -- TEXTS IN A ROW
 

@@ -1,7 +1,6 @@
 pub mod Readings
 pub mod Places
 pub mod Lines
-pub mod Opened
 pub mod Lengths
 pub mod Refusals
 pub mod Returned

@@ -85,6 +85,22 @@ pub record Inside (file : List ℕ) (b : Bounds) : Type 0 where
   pub constraint : b .constraint ≤ length file
   pub end : b .end ≤ length file
 
+-- where a section begins
+abbrev pub startOf : Bounds → Section → ℕ
+startOf b Comments = b .comments
+startOf b Datatypes = b .datatypes
+startOf b Constants = b .constants
+startOf b Functions = b .functions
+startOf b KVars = b .kvars
+
+-- where it ends
+abbrev pub endOf : Bounds → Section → ℕ
+endOf b Comments = b .datatypes
+endOf b Datatypes = b .constants
+endOf b Constants = b .functions
+endOf b Functions = b .kvars
+endOf b KVars = b .constraint
+
 -- the answer by the fault that is judged first
 abbrev pub judge : Bounds → ℕ → ℕ → Fault → Inspected
 judge b declarations heads f = cond (eqb (refusalOf f) 0) (inspected-is.Task b declarations heads) (inspected-is.Refused (refusalOf f))

@@ -12,7 +12,7 @@ ghost use Rattle.task.specs.Fault.{lower, refusalOf};
 ghost use Rattle.task.specs.Task.{mark, bound, taskOf};
 ghost use Rattle.item_check.specs.Items.{itemWalk};
 ghost use Rattle.inspect.specs.Inspect.{boundsOf, inspectedOf};
-ghost use Rattle.inspect.specs.Walk.{ordered, walkItems, sectionOf, itemsOf, Inside, trailerOf, judge as judgeOf, conclude as concludeOf};
+ghost use Rattle.inspect.specs.Walk.{ordered, walkItems, sectionOf, itemsOf, Inside, startOf, endOf, trailerOf, judge as judgeOf, conclude as concludeOf};
 
 // Where each section begins, and where the last one ends.
 pub struct Bounds {
@@ -270,5 +270,31 @@ pub fn inspect(file: &[u8]) -> Inspected
             conclude(b, n, f, c)
         }
         Listed::Refused(k) => Inspected::Refused(k),
+    }
+}
+
+// Where a section begins.
+pub fn start_of(b: Bounds, section: Section) -> usize
+    ensures { λ r. ⌜ r ≡ startOf b section ⌝ }
+{
+    match section {
+        Section::Comments => b.comments,
+        Section::Datatypes => b.datatypes,
+        Section::Constants => b.constants,
+        Section::Functions => b.functions,
+        Section::KVars => b.kvars,
+    }
+}
+
+// Where it ends.
+pub fn end_of(b: Bounds, section: Section) -> usize
+    ensures { λ r. ⌜ r ≡ endOf b section ⌝ }
+{
+    match section {
+        Section::Comments => b.datatypes,
+        Section::Datatypes => b.constants,
+        Section::Constants => b.functions,
+        Section::Functions => b.kvars,
+        Section::KVars => b.constraint,
     }
 }

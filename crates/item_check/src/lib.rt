@@ -1,5 +1,4 @@
-// The items of a file's sections: comments, datatypes, constants, functions and KVars. Where each ends and what is at fault in it, and
-// which names the datatypes declare.
+// The items of a file's sections: comments, datatypes, constants, functions and KVars. Where each ends and what is at fault in it.
 use task::Fault;
 use task::FlagRead;
 use task::Number;
@@ -9,13 +8,10 @@ ghost use mathlib.Core.Path.{_≡_};
 ghost use mathlib.Core.Bool.{true, false};
 ghost use mathlib.Core.List.{[], _∷_};
 ghost use Prim.Native.Nat.{_<_};
-ghost use Rattle.smtlib.specs.Lexicon.{isOne};
 ghost use Rattle.task.specs.Decode.{many, name, comment, dataCtor, datatype, body, function, kvar};
 ghost use Rattle.task.specs.Fault.{each, nameFault, textFault, dataCtorFault, emptyFault, datatypeFault, arityFault, bodyFault, functionFault, kvarFault};
-ghost use Rattle.task.specs.Task.{declaredBy, isDatatype, isCtor};
 ghost use Rattle.task_check.specs.Walk.{walked};
 ghost use Rattle.item_check.specs.Items.{itemWalk, signature, signatureFault};
-ghost use Rattle.item_check.specs.Search.{Constructs, Declares, datatypesIn};
 
 // What a section holds.
 pub enum Section {
@@ -237,85 +233,4 @@ pub fn check_item(s: &[u8], at: usize, section: Section) -> Walked
         Section::Functions => check_function(s, at),
         Section::KVars => check_kvar(s, at),
     }
-}
-
-// Whether one of n constructors has the name.
-fn is_constructed(s: &[u8], at: usize, n: u64, x: &[u8]) -> bool
-    ensures { λ r. ⌜ Constructs (now (x .entry)) n (now (s .entry)) at r ⌝ }
-{
-    let mut p = at;
-    let mut left = n;
-    while 0 < left {
-        let one = check_ctor(s, p);
-        let Walked::Next(q, _) = one else {
-            return false;
-        };
-        if task_check::is_named(s, p, x) {
-            return true;
-        }
-        p = q;
-        left -= 1;
-    }
-    false
-}
-
-// Whether a constructor of the datatype at a position has the name.
-fn has_ctor(s: &[u8], at: usize, x: &[u8]) -> bool
-    ensures { λ r. ⌜ Declares (now (x .entry)) true (now (s .entry)) at r ⌝ }
-{
-    let name = task::read_name(s, at);
-    let SpanRead::At(_, p) = name else {
-        return false;
-    };
-    let vars = task::number_at(s, p, 2);
-    let Number::Value(_, q) = vars else {
-        return false;
-    };
-    let count = task::number_at(s, q, 2);
-    let Number::Value(n, r) = count else {
-        return false;
-    };
-    is_constructed(s, r, n, x)
-}
-
-// Whether the datatype at a position declares the name: as its own, or as a constructor's.
-fn declares(s: &[u8], at: usize, x: &[u8], ctors: bool) -> bool
-    ensures { λ r. ⌜ Declares (now (x .entry)) ctors (now (s .entry)) at r ⌝ }
-{
-    if ctors {
-        return has_ctor(s, at, x);
-    }
-    task_check::is_named(s, at, x)
-}
-
-// Whether a datatype of the section declares the name.
-fn is_declared(s: &[u8], at: usize, x: &[u8], ctors: bool) -> bool
-    ensures { λ r. ⌜ r ≡ isOne (now (x .entry)) (declaredBy ctors (datatypesIn (now (s .entry)) at)) ⌝ }
-{
-    let mut p = at;
-    while p < s.len() {
-        let one = check_datatype(s, p);
-        let Walked::Next(q, _) = one else {
-            return false;
-        };
-        if declares(s, p, x, ctors) {
-            return true;
-        }
-        p = q;
-    }
-    false
-}
-
-// Whether a name is that of a datatype declared in the section from a position on.
-pub fn is_datatype(s: &[u8], at: usize, x: &[u8]) -> bool
-    ensures { λ r. ⌜ r ≡ isDatatype (now (x .entry)) (datatypesIn (now (s .entry)) at) ⌝ }
-{
-    is_declared(s, at, x, false)
-}
-
-// Whether a name is that of a constructor declared in the section from a position on.
-pub fn is_ctor(s: &[u8], at: usize, x: &[u8]) -> bool
-    ensures { λ r. ⌜ r ≡ isCtor (now (x .entry)) (datatypesIn (now (s .entry)) at) ⌝ }
-{
-    is_declared(s, at, x, true)
 }

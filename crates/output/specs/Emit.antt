@@ -5,7 +5,8 @@ use mathlib.Core.Path.{_≡_}
 use mathlib.Core.List.{List, [], _∷_}
 use lib.ListN.{length, set}
 use lib.Seq.{sets}
-use Rattle.task.specs.Decode.{Res, got}
+use Rattle.task.specs.Decode.{Res}
+use Rattle.task.specs.Run.{Runs}
 
 -- what stands in a buffer, and how many bytes were sent to it
 pub record Output : Type 0 where
@@ -27,10 +28,6 @@ emit o b = output (set (o .buf) (o .len) b) (min (o .len + 1) most)
 unfoldable pub emits : Output → List ℕ → Output
 emits o [] = o
 emits o (b ∷ bs) = emits (emit o b) bs
-
--- Where a piece was decoded, a walker ended behind it and has run it: what it had before became what it has now.
-abbrev pub Runs : {A W : Type 0} → (W → A → W) → Res A → W → W → ℕ → Type 0
-Runs {A} run d w w' at = (a : A) (p : ℕ) → d ≡ got a p → (at ≡ p) × (w' ≡ run w a)
 
 -- a writer runs a piece by sending its text
 unfoldable pub Sends : {A : Type 0} → (A → List ℕ) → Res A → Output → Output → ℕ → Type 0

@@ -1,2 +1,3 @@
+pub mod Encoders
 pub mod Placing
 pub mod Scripts

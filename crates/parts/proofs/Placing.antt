@@ -4,7 +4,7 @@ use mathlib.Core.Bool.{false}
 use mathlib.Core.List.{List, [], _∷_, _++_, map, nil≢cons}
 use Prim.Native.Nat.{ℕ, zero, suc, _+_, _-_, _<_, _≤_}
 use native.Mathlib.Omega.{arith}
-use lib.ListN.{length}
+use lib.ListN.{length, take, length-take}
 use borrow.Author.Tests.{le-leb, lt-leb}
 use Rattle.smtlib.specs.Lexicon.{bytes}
 use Rattle.task.specs.declared.Fault.{Fault}
@@ -15,12 +15,11 @@ use Rattle.task.specs.Covers.{CoversSome}
 use Rattle.task.specs.Decode.{Res, got, bind, comment, datatype, constant, function, kvar, items, section}
 use Rattle.task.specs.Fault.{textFault, datatypeFault, binderFault, functionFault, kvarFault}
 use Rattle.task.specs.Node.{bytesOf, spanOf}
-use Rattle.task.proofs.Reading.{bind-got, got-refuse}
+use Rattle.task.proofs.Reading.{bind-got}
 use Rattle.task.proofs.Pieces.{each-covers}
 use Rattle.task_check.specs.declared.Walked.{Walked}
 use Rattle.task_check.specs.declared.Walked.the-variants as walked-is
-use Rattle.task_check.specs.Walk.{walked}
-use Rattle.task_check.proofs.Rows.{refused-is}
+use Rattle.task_check.proofs.Rows.{made-ends, made-none}
 use Rattle.item_check.specs.declared.Section.{Section}
 use Rattle.item_check.specs.declared.Section.the-variants.{Comments, Datatypes, Constants, Functions, KVars}
 use Rattle.item_check.specs.Items.{itemWalk}
@@ -29,13 +28,15 @@ use Rattle.smt_text.specs.Text.{write-datatype-decl, write-const-decl, write-fu
 use Rattle.horn_text.specs.Script.{join, write-comment, opening}
 use Rattle.output.specs.Emit.{Output, emit, emits, Sends}
 use Rattle.output.proofs.Sent.{emits-append}
-use Rattle.output.proofs.Sending.{sends-refused, sends-end, sends-map, Steps}
+use Rattle.task.specs.Run.{Runs}
+use Rattle.task.proofs.Running.{Steps}
+use Rattle.output.proofs.Sending.{sends-refused, sends-end, sends-map}
 use Rattle.flatten.specs.declared.Range.{Range}
 use Rattle.flatten.specs.declared.Progress.{Progress}
 use Rattle.flatten.specs.Parts.{Writing, writing, has, passed, puts, Puts}
 use Rattle.flatten.proofs.Lending.{put-out}
-use Rattle.flatten.proofs.Sections.{covers-map}
-use Rattle.parts.specs.Whole.{itemText, itself, alone, commentLines, PutsAll}
+use Rattle.task.proofs.Sections.{covers-map, runs-whole, Over, over-start, over-more, over-stuck, over-end}
+use Rattle.parts.specs.Whole.{itemText, itself, alone, commentLines, PutsAll, each}
 
 -- A PART
 
@@ -121,38 +122,22 @@ module _ (enc : Encoder) where
 pub text-of : {A : Type 0} (text : A → List ℕ) (x : Res A) (o o' : Output) (r : ℕ) → Sends text x o o' r → Sends itself (bind x (λ a p. got (text a) p)) o o' r
 text-of text x o o' r w = sends-map itself text x o o' r w
 
--- where the walker ended there the piece ends
-ends : {A : Type 0} (fault : A → Fault) (text : A → List ℕ) (x : Res A) (v : Walked) (q : ℕ) (f : Fault) (t : List ℕ) (z : ℕ) → v ≡ walked fault x → v ≡ walked-is.Next q f
-    → bind x (λ a p. got (text a) p) ≡ got t z → q ≡ z
-ends fault text x v q f t z e e' g =
-    let i = bind-got x (λ a p. got (text a) p) t z g in
-    let y : walked-is.Next q f ≡ walked-is.Next (i .next) (fault (i .value)) = sym e' ∙ e ∙ ap (walked fault) (i .first) in
-    let k : i .next ≡ z = cc in
-    cc
-
--- where it refused there is none
-none-there : {A B : Type 0} (fault : A → Fault) (text : A → List ℕ) (x : Res A) (v : Walked) (k : ℕ) (t : List ℕ) (z : ℕ) → v ≡ walked fault x → v ≡ walked-is.Refused k
-    → bind x (λ a p. got (text a) p) ≡ got t z → B
-none-there fault text x v k t z e e' g =
-    let i = bind-got x (λ a p. got (text a) p) t z g in
-    got-refuse (sym (i .first) ∙ refused-is fault x k (sym e' ∙ e))
-
 module _ (enc : Encoder) (s : List ℕ) (at : ℕ) (v : Walked) (t : List ℕ) (z : ℕ) where
   item-ends : (i : Section) (q : ℕ) (f : Fault) → v ≡ itemWalk i s at → v ≡ walked-is.Next q f → itemText enc i s at ≡ got t z → q ≡ z
   unfolding itemWalk itemText
-  item-ends Comments q f e e' g = ends textFault write-comment (comment s at) v q f t z e e' g
-  item-ends Datatypes q f e e' g = ends datatypeFault (write-datatype-decl enc) (datatype s at) v q f t z e e' g
-  item-ends Constants q f e e' g = ends binderFault (write-const-decl enc) (constant s at) v q f t z e e' g
-  item-ends Functions q f e e' g = ends functionFault (write-fun-def enc) (function s at) v q f t z e e' g
-  item-ends KVars q f e e' g = ends kvarFault (write-kvar-decl enc) (kvar s at) v q f t z e e' g
+  item-ends Comments q f e e' g = made-ends textFault write-comment (comment s at) v e t z g q f e'
+  item-ends Datatypes q f e e' g = made-ends datatypeFault (write-datatype-decl enc) (datatype s at) v e t z g q f e'
+  item-ends Constants q f e e' g = made-ends binderFault (write-const-decl enc) (constant s at) v e t z g q f e'
+  item-ends Functions q f e e' g = made-ends functionFault (write-fun-def enc) (function s at) v e t z g q f e'
+  item-ends KVars q f e e' g = made-ends kvarFault (write-kvar-decl enc) (kvar s at) v e t z g q f e'
 
   no-item : {B : Type 0} (i : Section) (k : ℕ) → v ≡ itemWalk i s at → v ≡ walked-is.Refused k → itemText enc i s at ≡ got t z → B
   unfolding itemWalk itemText
-  no-item Comments k e e' g = none-there textFault write-comment (comment s at) v k t z e e' g
-  no-item Datatypes k e e' g = none-there datatypeFault (write-datatype-decl enc) (datatype s at) v k t z e e' g
-  no-item Constants k e e' g = none-there binderFault (write-const-decl enc) (constant s at) v k t z e e' g
-  no-item Functions k e e' g = none-there functionFault (write-fun-def enc) (function s at) v k t z e e' g
-  no-item KVars k e e' g = none-there kvarFault (write-kvar-decl enc) (kvar s at) v k t z e e' g
+  no-item Comments k e e' g = made-none textFault write-comment (comment s at) v e t z g k e'
+  no-item Datatypes k e e' g = made-none datatypeFault (write-datatype-decl enc) (datatype s at) v e t z g k e'
+  no-item Constants k e e' g = made-none binderFault (write-const-decl enc) (constant s at) v e t z g k e'
+  no-item Functions k e e' g = made-none functionFault (write-fun-def enc) (function s at) v e t z g k e'
+  no-item KVars k e e' g = made-none kvarFault (write-kvar-decl enc) (kvar s at) v e t z g k e'
 
 module _ (enc : Encoder) (i : Section) (s : List ℕ) (at : ℕ) (r : Range) (v : Walked) (e : v ≡ itemWalk i s at) where
   pub item-out : (p p' : Progress) (xs : List ℕ) (q : ℕ) (f : Fault) → has r (p .seen) ≡ false → v ≡ walked-is.Next q f → p' ≡ passed p
@@ -168,3 +153,36 @@ module _ (enc : Encoder) (i : Section) (s : List ℕ) (at : ℕ) (r : Range) (v 
 pub section-steps : (r : Range) → Steps [] _∷_ (λ (w : Writing) (t : List ℕ). puts r w (t ∷ [])) (λ w ts. puts r w ts)
 unfolding puts
 section-steps r = record { none = λ w. refl; step = λ w t ts. refl }
+
+-- the loop over a section, which is read in the whole file
+module _ (enc : Encoder) (i : Section) (file : List ℕ) (at end : ℕ) (l : end ≤ length file) (r : Range) (first : Writing) where
+  -- the items from q on are left, and what there was at first has become w
+  pub Left : ℕ → Writing → Type 0
+  Left q w = Over (section-steps r) (itemText enc i) (item-covers enc i) (take end file) at first q w
+
+  pub left-start : Left at first
+  unfolding Left
+  left-start = over-start (section-steps r) (itemText enc i) (item-covers enc i) (take end file) at first
+
+  module _ (q : ℕ) (w w' : Writing) (p : ℕ) (h : q < end) (o : Left q w) (u : Puts alone r (itemText enc i file q) w w' p) where
+    whole : Runs (λ (v : Writing) (t : List ℕ). puts r v (t ∷ [])) (itemText enc i (take end file) q) w w' p
+    unfolding Puts
+    whole = runs-whole (λ (v : Writing) (t : List ℕ). puts r v (t ∷ [])) (itemText enc i) (item-covers enc i) file end q w w' p u
+
+    pub left-more : q < p → Left p w'
+    unfolding Left
+    left-more g =
+        let k = length-take end file in
+        over-more (section-steps r) (itemText enc i) (item-covers enc i) (take end file) at first q w w' p (omega arith) o whole g
+
+    pub left-stuck : (w'' : Writing) → p ≤ q → PutsAll each r (section (itemText enc i) (take end file) at) first w''
+    unfolding Left PutsAll
+    left-stuck w'' g a z e =
+        let k = length-take end file in
+        over-stuck (section-steps r) (itemText enc i) (item-covers enc i) (take end file) at first q w w' w'' p 0 (omega arith) o whole g a z e .1
+
+  pub left-end : (q : ℕ) (w : Writing) → end ≤ q → Left q w → PutsAll each r (section (itemText enc i) (take end file) at) first w
+  unfolding Left PutsAll
+  left-end q w h o a z e =
+      let k = length-take end file in
+      over-end (section-steps r) (itemText enc i) (item-covers enc i) (take end file) at first q w (omega arith) o a z e .1

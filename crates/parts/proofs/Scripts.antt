@@ -1,61 +1,54 @@
 -- What the parts of a file add up to: its declarations, its assertions, its script.
 use mathlib.Core.Path.{_≡_, refl, sym, ap, _∙_, subst}
-use mathlib.Core.List.{List, [], _∷_, _++_, map}
-use Prim.Native.Nat.{ℕ, _≤_}
-use native.Mathlib.Omega.{arith}
-use lib.ListN.{length, take}
-use lib.Seq.{take-take}
+use mathlib.Core.List.{List, [], _∷_, _++_}
+use Prim.Native.Nat.{ℕ}
+use lib.ListN.{take}
 use Rattle.smtlib.specs.Lexicon.{bytes}
 use Rattle.task.specs.Ast.{Task}
-use Rattle.task.specs.Decode.{got, bind, Decoder, give, _▹_, comment, datatype, constant, function, kvar, section}
+use Rattle.task.specs.Decode.{got, comment, datatype, constant, function, kvar, section, decConstraint, deepest}
 use Rattle.task.specs.Task.{bound}
 use Rattle.task.proofs.Reading.{bind-got}
+use Rattle.task.proofs.Pieces.{each-covers}
 use Rattle.item_check.specs.declared.Section.{Section}
-use Rattle.item_check.specs.declared.Section.the-variants.{Comments, Datatypes, Constants, Functions, KVars}
+use Rattle.item_check.specs.declared.Section.the-variants.{Datatypes, Constants, Functions, KVars}
 use Rattle.inspect.specs.declared.Bounds.{Bounds}
 use Rattle.inspect.specs.Inspect.{boundsOf}
-use Rattle.inspect.specs.Walk.{Inside}
+use Rattle.inspect.specs.Walk.{startOf, endOf}
+use Rattle.names.specs.Table.{entries}
+use Rattle.declared.specs.Symbols.{symbolsOf}
 use Rattle.smt_text.specs.Encoder.{Encoder, encoder}
 use Rattle.smt_text.specs.Text.{write-datatype-decl, write-const-decl, write-fun-def, write-kvar-decl}
 use Rattle.smt_sort.specs.Section.{encoderIn}
-use Rattle.smt_sort.proofs.Sorts.{encoder-is}
 use Rattle.horn_text.specs.Clauses.{clausesOf}
 use Rattle.horn_text.specs.Script.{write-asserts, opening, declarationParts, closing, partsOf}
-use Rattle.horn_text.proofs.Opened.{Opened, opened}
+use Rattle.task.proofs.Opened.{Opened, opened}
 use Rattle.assertion.specs.Under.{onPath}
 use Rattle.flatten.specs.declared.Range.{Range}
 use Rattle.flatten.specs.declared.Progress.{Progress}
 use Rattle.flatten.specs.Parts.{Writing, writing, put, puts, PutsUnder, Puts, clauseParts}
 use Rattle.flatten.proofs.Lending.{puts-append}
-use Rattle.flatten.proofs.Sections.{section-map}
-use Rattle.parts.specs.Whole.{itemText, openingPart, each, PutsAll, typesOf, startOf, endOf, sectionTexts, declarationTexts, constraintIn, assertionParts, fresh, PutsScript, Measured}
+use Rattle.task.proofs.Sections.{in-whole, section-made}
+use Rattle.parts.proofs.Encoders.{encoder-is}
+use Rattle.parts.specs.Whole.{itemText, openingPart, each, PutsAll, sectionTexts, declarationTexts, constraintIn, assertionParts, fresh, PutsScript, Measured}
 
 -- DECLARATIONS
 
--- a section ends inside the file
-pub ends-inside : (file : List ℕ) (b : Bounds) (i : Section) → Inside file b → endOf b i ≤ length file
-ends-inside file b Comments h = h .datatypes
-ends-inside file b Datatypes h = h .constants
-ends-inside file b Constants h = h .functions
-ends-inside file b Functions h = h .kvars
-ends-inside file b KVars h = h .constraint
+-- where a section begins and ends, as the code has it
+pub section-put : (file enc : List ℕ) (b : Bounds) (i : Section) (at end : ℕ) (r : Range) (w w' : Writing) → at ≡ startOf b i → end ≡ endOf b i
+    → PutsAll each r (section (itemText (encoderIn file enc) i) (take end file) at) w w' → PutsAll each r (sectionTexts file enc b i) w w'
+section-put file enc b i at end r w w' e e' u = rw (e, e') at u
 
--- where it begins and ends, as the code has it
-pub section-put : (file : List ℕ) (b : Bounds) (i : Section) (at end : ℕ) (r : Range) (w w' : Writing) → at ≡ startOf b i → end ≡ endOf b i
-    → PutsAll each r (section (itemText (encoderIn (take end file) (typesOf b)) i) (take end file) at) w w' → PutsAll each r (sectionTexts file b i) w w'
-section-put file b i at end r w w' e e' u = rw (e, e') at u
-
-pub declarations-put : (file : List ℕ) (b : Bounds) (r : Range) (w w1 w2 w3 w4 : Writing)
-    → PutsAll each r (sectionTexts file b Datatypes) w w1
-    → PutsAll each r (sectionTexts file b Constants) w1 w2
-    → PutsAll each r (sectionTexts file b Functions) w2 w3
-    → PutsAll each r (sectionTexts file b KVars) w3 w4 → PutsAll each r (declarationTexts file b) w w4
+pub declarations-put : (file enc : List ℕ) (b : Bounds) (r : Range) (w w1 w2 w3 w4 : Writing)
+    → PutsAll each r (sectionTexts file enc b Datatypes) w w1
+    → PutsAll each r (sectionTexts file enc b Constants) w1 w2
+    → PutsAll each r (sectionTexts file enc b Functions) w2 w3
+    → PutsAll each r (sectionTexts file enc b KVars) w3 w4 → PutsAll each r (declarationTexts file enc b) w w4
 unfolding PutsAll declarationTexts
-declarations-put file b r w w1 w2 w3 w4 u1 u2 u3 u4 us q e =
-    let i = bind-got (sectionTexts file b Datatypes) _ us q e in
-    let j = bind-got (sectionTexts file b Constants) _ us q (i .then) in
-    let k = bind-got (sectionTexts file b Functions) _ us q (j .then) in
-    let l = bind-got (sectionTexts file b KVars) _ us q (k .then) in
+declarations-put file enc b r w w1 w2 w3 w4 u1 u2 u3 u4 us q e =
+    let i = bind-got (sectionTexts file enc b Datatypes) _ us q e in
+    let j = bind-got (sectionTexts file enc b Constants) _ us q (i .then) in
+    let k = bind-got (sectionTexts file enc b Functions) _ us q (j .then) in
+    let l = bind-got (sectionTexts file enc b KVars) _ us q (k .then) in
     let all : i .value ++ (j .value ++ (k .value ++ l .value)) ≡ us = cc in
     u4 (l .value) (l .next) (l .first)
     ∙ ap (λ (v : Writing). puts r v (l .value)) (u3 (k .value) (k .next) (k .first))
@@ -69,60 +62,44 @@ declarations-put file b r w w1 w2 w3 w4 u1 u2 u3 u4 us q e =
 
 -- ASSERTIONS
 
-pub assertions-put : (file : List ℕ) (b : Bounds) (r : Range) (w w' : Writing) (q : ℕ)
-    → PutsUnder (clauseParts (encoderIn (take (b .end) file) (typesOf b))) r (onPath (take (b .end) file) []) (constraintIn file b) w w' q
-    → PutsAll (assertionParts file b) r (constraintIn file b) w w'
+pub assertions-put : (file enc : List ℕ) (b : Bounds) (r : Range) (w w' : Writing) (q : ℕ)
+    → PutsUnder (clauseParts (encoderIn file enc)) r (onPath file []) (decConstraint deepest file (b .constraint)) w w' q
+    → PutsAll (assertionParts file enc) r (constraintIn file b) w w'
 unfolding PutsAll PutsUnder Puts assertionParts onPath
-assertions-put file b r w w' q u c p g = u [] 0 refl c p g .1
+assertions-put file enc b r w w' q u c p g =
+    u [] 0 refl c p (in-whole (decConstraint deepest) (each-covers .constraints deepest) file (b .end) (b .constraint) c p g) .1
 
 -- THE SCRIPT
 
--- the texts of a section that decodes
-texts-of : {A : Type 0} (d : Decoder A) (f : A → List ℕ) (s : List ℕ) (at : ℕ) (xs : List A) (q : ℕ) → section d s at ≡ got xs q
-    → section (d ▹ λ a. give (f a)) s at ≡ got (map f xs) q
-texts-of d f s at xs q e = section-map d f s at ∙ ap (λ x. bind x (λ ys p. got (map f ys) p)) e
+module _ (file enc : List ℕ) (t : Task) (o : Opened file t) (names : entries file enc ≡ symbolsOf t) where
+  is-encoder : encoderIn file enc ≡ encoder (t .datatypes)
+  is-encoder = encoder-is file enc t names
 
-module _ (file : List ℕ) (t : Task) (o : Opened file t) where
-  -- the datatypes are the same in every section behind them
-  same-encoder : (e : ℕ) → bound file 2 ≤ e → encoderIn (take e file) (typesOf (boundsOf file)) ≡ encoder (t .datatypes)
-  same-encoder e h = encoder-is (take e file) (typesOf (boundsOf file)) (t .datatypes) (o .datatypes-end) (rw (take-take (bound file 2) e file h) (o .datatypes))
-
-  declared : declarationTexts file (boundsOf file) ≡ got (declarationParts (encoder (t .datatypes)) t) (o .kvars-end)
+  declared : declarationTexts file enc (boundsOf file) ≡ got (declarationParts (encoder (t .datatypes)) t) (o .kvars-end)
   unfolding declarationTexts itemText
   declared =
-      let r2 = o .rise2 in
-      let r3 = o .rise3 in
-      let r4 = o .rise4 in
-      let enc = encoder (t .datatypes) in
+      let ts = encoder (t .datatypes) in
       rw (
-        same-encoder (bound file 2) (omega arith),
-        same-encoder (bound file 3) (omega arith),
-        same-encoder (bound file 4) (omega arith),
-        same-encoder (bound file 5) (omega arith),
-        texts-of datatype (write-datatype-decl enc) (take (bound file 2) file) (bound file 1) (t .datatypes) (o .datatypes-end) (o .datatypes),
-        texts-of constant (write-const-decl enc) (take (bound file 3) file) (bound file 2) (t .constants) (o .constants-end) (o .constants),
-        texts-of function (write-fun-def enc) (take (bound file 4) file) (bound file 3) (t .functions) (o .functions-end) (o .functions),
-        texts-of kvar (write-kvar-decl enc) (take (bound file 5) file) (bound file 4) (t .kvars) (o .kvars-end) (o .kvars),
+        is-encoder,
+        section-made datatype (write-datatype-decl ts) (take (bound file 2) file) (bound file 1) (t .datatypes) (o .datatypes-end) (o .datatypes),
+        section-made constant (write-const-decl ts) (take (bound file 3) file) (bound file 2) (t .constants) (o .constants-end) (o .constants),
+        section-made function (write-fun-def ts) (take (bound file 4) file) (bound file 3) (t .functions) (o .functions-end) (o .functions),
+        section-made kvar (write-kvar-decl ts) (take (bound file 5) file) (bound file 4) (t .kvars) (o .kvars-end) (o .kvars),
       )
 
-  asserted : assertionParts file (boundsOf file) (t .constraint) ≡ write-asserts (encoder (t .datatypes)) (clausesOf t)
+  asserted : assertionParts file enc (t .constraint) ≡ write-asserts (encoder (t .datatypes)) (clausesOf t)
   unfolding assertionParts clauseParts
-  asserted =
-      let r2 = o .rise2 in
-      let r3 = o .rise3 in
-      let r4 = o .rise4 in
-      let r5 = o .rise5 in
-      ap (λ (enc : Encoder). write-asserts enc (clausesOf t)) (same-encoder (bound file 6) (omega arith))
+  asserted = ap (λ (ts : Encoder). write-asserts ts (clausesOf t)) is-encoder
 
   module _ (r : Range) (w0 w1 w2 w3 w4 w5 : Writing) where
-    put-all : PutsAll openingPart r (section comment (take (bound file 1) file) (bound file 0)) w0 w1 → PutsAll each r (declarationTexts file (boundsOf file)) w1 w2
-        → w3 ≡ put r w2 (bytes "\n") → PutsAll (assertionParts file (boundsOf file)) r (constraintIn file (boundsOf file)) w3 w4 → w5 ≡ put r w4 (bytes "\n(check-sat)\n")
+    put-all : PutsAll openingPart r (section comment (take (bound file 1) file) (bound file 0)) w0 w1 → PutsAll each r (declarationTexts file enc (boundsOf file)) w1 w2
+        → w3 ≡ put r w2 (bytes "\n") → PutsAll (assertionParts file enc) r (constraintIn file (boundsOf file)) w3 w4 → w5 ≡ put r w4 (bytes "\n(check-sat)\n")
         → w5 ≡ puts r w0 (partsOf t)
     unfolding PutsAll closing puts
     put-all u1 u2 e3 u4 e5 =
-        let enc = encoder (t .datatypes) in
-        let ds = declarationParts enc t in
-        let cs = write-asserts enc (clausesOf t) in
+        let ts = encoder (t .datatypes) in
+        let ds = declarationParts ts t in
+        let cs = write-asserts ts (clausesOf t) in
         let e1 : w1 ≡ put r w0 (opening (t .comments)) = u1 (t .comments) (o .comments-end) (o .comments) in
         let e2 : w2 ≡ puts r w1 ds = u2 ds (o .kvars-end) declared in
         let e4 : w4 ≡ puts r w3 cs = u4 (t .constraint) (bound file 6) (o .constraint) ∙ ap (puts r w3) asserted in
@@ -130,29 +107,29 @@ module _ (file : List ℕ) (t : Task) (o : Opened file t) where
         (sym (puts-append r (put r w0 (opening (t .comments))) ds (bytes "\n" ∷ (cs ++ closing ∷ []))
         ∙ puts-append r (put r (puts r (put r w0 (opening (t .comments))) ds) (bytes "\n")) cs (closing ∷ [])))
 
-script-put : (file : List ℕ) (b : Bounds) (r : Range) (w0 w1 w2 w3 w4 w5 : Writing) → PutsAll openingPart r (section comment (take (b .datatypes) file) (b .comments)) w0 w1
-    → PutsAll each r (declarationTexts file b) w1 w2 → w3 ≡ put r w2 (bytes "\n") → PutsAll (assertionParts file b) r (constraintIn file b) w3 w4 → w5 ≡ put r w4 (bytes "\n(check-sat)\n")
-    → PutsScript file b r w0 w5
+script-put : (file enc : List ℕ) (b : Bounds) (r : Range) (w0 w1 w2 w3 w4 w5 : Writing) → PutsAll openingPart r (section comment (take (b .datatypes) file) (b .comments)) w0 w1
+    → PutsAll each r (declarationTexts file enc b) w1 w2 → w3 ≡ put r w2 (bytes "\n") → PutsAll (assertionParts file enc) r (constraintIn file b) w3 w4 → w5 ≡ put r w4 (bytes "\n(check-sat)\n")
+    → PutsScript file enc b r w0 w5
 unfolding PutsScript
-script-put file b r w0 w1 w2 w3 w4 w5 u1 u2 e3 u4 e5 t end e eb =
+script-put file enc b r w0 w1 w2 w3 w4 w5 u1 u2 e3 u4 e5 t end e eb en =
     subst
-    (λ (x : Bounds). PutsAll openingPart r (section comment (take (x .datatypes) file) (x .comments)) w0 w1 → PutsAll each r (declarationTexts file x) w1 w2
-    → PutsAll (assertionParts file x) r (constraintIn file x) w3 w4 → w5 ≡ puts r w0 (partsOf t))
-    (sym eb) (λ v1 v2 v4. put-all file t (opened file t end e) r w0 w1 w2 w3 w4 w5 v1 v2 e3 v4 e5) u1 u2 u4
+    (λ (x : Bounds). PutsAll openingPart r (section comment (take (x .datatypes) file) (x .comments)) w0 w1 → PutsAll each r (declarationTexts file enc x) w1 w2
+    → PutsAll (assertionParts file enc) r (constraintIn file x) w3 w4 → w5 ≡ puts r w0 (partsOf t))
+    (sym eb) (λ v1 v2 v4. put-all file enc t (opened file t end e) en r w0 w1 w2 w3 w4 w5 v1 v2 e3 v4 e5) u1 u2 u4
 
 -- at first nothing was written
 started : (p : Progress) (buf : List ℕ) → (p .seen ≡ 0) × (p .len ≡ 0) × (p .longest ≡ 0) → writing p buf ≡ fresh buf
 started p buf e = λ i. record { seen = e .0 i; len = e .1 i; longest = e .2 i; buf = buf }
 
-pub script-from-start : (file : List ℕ) (b : Bounds) (r : Range) (p : Progress) (buf : List ℕ) (w1 w2 w3 w4 w5 : Writing) → (p .seen ≡ 0) × (p .len ≡ 0) × (p .longest ≡ 0)
-    → PutsAll openingPart r (section comment (take (b .datatypes) file) (b .comments)) (writing p buf) w1 → PutsAll each r (declarationTexts file b) w1 w2 → w3 ≡ put r w2 (bytes "\n")
-    → PutsAll (assertionParts file b) r (constraintIn file b) w3 w4 → w5 ≡ put r w4 (bytes "\n(check-sat)\n") → PutsScript file b r (fresh buf) w5
-script-from-start file b r p buf w1 w2 w3 w4 w5 e u1 u2 e3 u4 e5 =
-    subst (λ (w : Writing). PutsScript file b r w w5) (started p buf e) (script-put file b r (writing p buf) w1 w2 w3 w4 w5 u1 u2 e3 u4 e5)
+pub script-from-start : (file enc : List ℕ) (b : Bounds) (r : Range) (p : Progress) (buf : List ℕ) (w1 w2 w3 w4 w5 : Writing) → (p .seen ≡ 0) × (p .len ≡ 0) × (p .longest ≡ 0)
+    → PutsAll openingPart r (section comment (take (b .datatypes) file) (b .comments)) (writing p buf) w1 → PutsAll each r (declarationTexts file enc b) w1 w2 → w3 ≡ put r w2 (bytes "\n")
+    → PutsAll (assertionParts file enc) r (constraintIn file b) w3 w4 → w5 ≡ put r w4 (bytes "\n(check-sat)\n") → PutsScript file enc b r (fresh buf) w5
+script-from-start file enc b r p buf w1 w2 w3 w4 w5 e u1 u2 e3 u4 e5 =
+    subst (λ (w : Writing). PutsScript file enc b r w w5) (started p buf e) (script-put file enc b r (writing p buf) w1 w2 w3 w4 w5 u1 u2 e3 u4 e5)
 
 -- measuring is writing into no buffer
-pub measured : (file : List ℕ) (b : Bounds) (r : Range) (p : Progress) (buf after : List ℕ) → buf ≡ [] → PutsScript file b r (fresh buf) (writing p after) → Measured file b r p
+pub measured : (file enc : List ℕ) (b : Bounds) (r : Range) (p : Progress) (buf after : List ℕ) → buf ≡ [] → PutsScript file enc b r (fresh buf) (writing p after) → Measured file enc b r p
 unfolding PutsScript Measured
-measured file b r p buf after e0 u t end e eb =
-    let v : writing p after ≡ puts r (fresh []) (partsOf t) = u t end e eb ∙ ap (λ (x : List ℕ). puts r (fresh x) (partsOf t)) e0 in
+measured file enc b r p buf after e0 u t end e eb en =
+    let v : writing p after ≡ puts r (fresh []) (partsOf t) = u t end e eb en ∙ ap (λ (x : List ℕ). puts r (fresh x) (partsOf t)) e0 in
     (ap (λ (w : Writing). w .seen) v, ap (λ (w : Writing). w .len) v, ap (λ (w : Writing). w .longest) v)

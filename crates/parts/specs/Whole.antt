@@ -10,10 +10,11 @@ use Rattle.item_check.specs.declared.Section.{Section}
 use Rattle.item_check.specs.declared.Section.the-variants.{Comments, Datatypes, Constants, Functions, KVars}
 use Rattle.inspect.specs.declared.Bounds.{Bounds}
 use Rattle.inspect.specs.Inspect.{boundsOf}
-use Rattle.inspect.specs.Walk.{Inside}
-use Rattle.smt_text.specs.Encoder.{Encoder}
+use Rattle.inspect.specs.Walk.{Inside, startOf, endOf}
+use Rattle.names.specs.Table.{entries}
+use Rattle.declared.specs.Symbols.{symbolsOf}
+use Rattle.smt_text.specs.Encoder.{Encoder, encoder}
 use Rattle.smt_text.specs.Text.{write-datatype-decl, write-const-decl, write-fun-def, write-kvar-decl}
-use Rattle.smt_sort.specs.declared.Datatypes as types
 use Rattle.smt_sort.specs.Section.{encoderIn}
 use Rattle.horn_text.specs.Script.{join, write-comment, opening, partsOf}
 use Rattle.flatten.specs.declared.Range.{Range}
@@ -52,37 +53,17 @@ openingPart cs = opening cs ∷ []
 abbrev pub each : List (List ℕ) → List (List ℕ)
 each ts = ts
 
--- where a file's datatypes are
-abbrev pub typesOf : Bounds → types.Datatypes
-typesOf b = record { at = b .datatypes; end = b .constants }
-
--- where a section begins
-abbrev pub startOf : Bounds → Section → ℕ
-startOf b Comments = b .comments
-startOf b Datatypes = b .datatypes
-startOf b Constants = b .constants
-startOf b Functions = b .functions
-startOf b KVars = b .kvars
-
--- where it ends
-abbrev pub endOf : Bounds → Section → ℕ
-endOf b Comments = b .datatypes
-endOf b Datatypes = b .constants
-endOf b Constants = b .functions
-endOf b Functions = b .kvars
-endOf b KVars = b .constraint
-
 -- the texts of a section of the file
-abbrev pub sectionTexts : List ℕ → Bounds → Section → Res (List (List ℕ))
-sectionTexts file b i = section (itemText (encoderIn (take (endOf b i) file) (typesOf b)) i) (take (endOf b i) file) (startOf b i)
+abbrev pub sectionTexts : List ℕ → List ℕ → Bounds → Section → Res (List (List ℕ))
+sectionTexts file enc b i = section (itemText (encoderIn file enc) i) (take (endOf b i) file) (startOf b i)
 
 -- the texts of the declarations, in section order
-unfoldable pub declarationTexts : List ℕ → Bounds → Res (List (List ℕ))
-declarationTexts file b =
-    bind (sectionTexts file b Datatypes) (λ ds p.
-    bind (sectionTexts file b Constants) (λ cs q.
-    bind (sectionTexts file b Functions) (λ fs r.
-    bind (sectionTexts file b KVars) (λ ks t.
+unfoldable pub declarationTexts : List ℕ → List ℕ → Bounds → Res (List (List ℕ))
+declarationTexts file enc b =
+    bind (sectionTexts file enc b Datatypes) (λ ds p.
+    bind (sectionTexts file enc b Constants) (λ cs q.
+    bind (sectionTexts file enc b Functions) (λ fs r.
+    bind (sectionTexts file enc b KVars) (λ ks t.
     got (ds ++ (cs ++ (fs ++ ks))) t))))
 
 -- the constraint
@@ -90,21 +71,26 @@ abbrev pub constraintIn : List ℕ → Bounds → Res Constraint
 constraintIn file b = decConstraint deepest (take (b .end) file) (b .constraint)
 
 -- its assertions
-unfoldable pub assertionParts : List ℕ → Bounds → Constraint → List (List ℕ)
-assertionParts file b c = clauseParts (encoderIn (take (b .end) file) (typesOf b)) [] c
+unfoldable pub assertionParts : List ℕ → List ℕ → Constraint → List (List ℕ)
+assertionParts file enc c = clauseParts (encoderIn file enc) [] c
 
 -- nothing was written, into this buffer
 abbrev pub fresh : List ℕ → Writing
 fresh buf = record { seen = 0; len = 0; longest = 0; buf = buf }
 
--- Where the file holds a task, and b is where its sections are, the task's parts in the range were put.
-unfoldable pub PutsScript : List ℕ → Bounds → Range → Writing → Writing → Type 0
-PutsScript file b r w w' = (t : Task) (end : ℕ) → taskOf file ≡ got t end → b ≡ boundsOf file → w' ≡ puts r w (partsOf t)
+-- A table of the names that a task declares is the encoder of its datatypes. (proofs/Encoders.antt: encoder-is)
+abbrev pub EncoderIs : Type 0
+EncoderIs = (file enc : List ℕ) (t : Task) → entries file enc ≡ symbolsOf t → encoderIn file enc ≡ encoder (t .datatypes)
+
+-- Where the file holds a task, b is where its sections are and the table has the names that it declares, the task's parts in the range were
+-- put.
+unfoldable pub PutsScript : List ℕ → List ℕ → Bounds → Range → Writing → Writing → Type 0
+PutsScript file enc b r w w' = (t : Task) (end : ℕ) → taskOf file ≡ got t end → b ≡ boundsOf file → entries file enc ≡ symbolsOf t → w' ≡ puts r w (partsOf t)
 
 -- what is counted of it: how many parts there are, how long those in the range are together and how long the longest
-unfoldable pub Measured : List ℕ → Bounds → Range → Progress → Type 0
-Measured file b r p =
-    (t : Task) (end : ℕ) → taskOf file ≡ got t end → b ≡ boundsOf file
+unfoldable pub Measured : List ℕ → List ℕ → Bounds → Range → Progress → Type 0
+Measured file enc b r p =
+    (t : Task) (end : ℕ) → taskOf file ≡ got t end → b ≡ boundsOf file → entries file enc ≡ symbolsOf t
     → (p .seen ≡ puts r (fresh []) (partsOf t) .seen) × (p .len ≡ puts r (fresh []) (partsOf t) .len) × (p .longest ≡ puts r (fresh []) (partsOf t) .longest)
 
 -- The file holds a task, and b is where its sections are.

@@ -7,18 +7,20 @@ use flatten::Range;
 use inspect::Bounds;
 use item_check::Section;
 use output::Out;
-use smt_sort::Datatypes;
 use smt_word::Sent;
 use task::SpanRead;
 use task_check::Walked;
 ghost use mathlib.Core.Path.{_≡_};
+ghost use Prim.Native.Nat.{_≤_};
+ghost use lib.ListN.{length, take};
 ghost use Rattle.task.specs.Decode.{comment, section as sectionOf};
 ghost use Rattle.inspect.specs.Walk.{Inside};
+ghost use Rattle.names.specs.Table.{Chained};
 ghost use Rattle.smt_sort.specs.Section.{encoderIn};
 ghost use Rattle.horn_text.specs.Script.{write-comment, opening};
 ghost use Rattle.output.specs.Emit.{output, Sends};
 ghost use Rattle.flatten.specs.Parts.{writing, put, Puts};
-ghost use Rattle.parts.specs.Whole.{itemText, itself, alone, commentLines, openingPart, each, PutsAll, startOf, endOf, sectionTexts, declarationTexts, constraintIn, assertionParts, fresh, PutsScript, Measured};
+ghost use Rattle.parts.specs.Whole.{itemText, itself, alone, commentLines, openingPart, each, PutsAll, sectionTexts, declarationTexts, constraintIn, assertionParts, fresh, PutsScript, Measured};
 
 // Sends the line of the comment at a position.
 fn write_comment(s: &[u8], at: usize, buf: &mut [u8], out: Out) -> Sent
@@ -70,22 +72,16 @@ fn write_opening(s: &[u8], at: usize, buf: &mut [u8], out: Out) -> Sent
 }
 
 // Sends the text of the item at a position of a section.
-fn write_item(
-    s: &[u8],
-    at: usize,
-    section: Section,
-    types: Datatypes,
-    buf: &mut [u8],
-    out: Out,
-) -> Sent
-    ensures { λ r. ⌜ Sends itself (itemText (encoderIn (now (s .entry)) types) section (now (s .entry)) at) (output (now (buf .entry)) (out .len)) (output (now (buf .exit)) (r .out .len)) (r .at) ⌝ }
+fn write_item(s: &[u8], at: usize, section: Section, enc: &[u16], buf: &mut [u8], out: Out) -> Sent
+    requires { ⌜ Chained (now s) (now enc) ⌝ }
+    ensures { λ r. ⌜ Sends itself (itemText (encoderIn (now (s .entry)) (now (enc .entry))) section (now (s .entry)) at) (output (now (buf .entry)) (out .len)) (output (now (buf .exit)) (r .out .len)) (r .at) ⌝ }
 {
     match section {
         Section::Comments => write_comment(s, at, buf, out),
-        Section::Datatypes => smt_fmt::write_datatype_decl(s, at, types, buf, out),
-        Section::Constants => smt_fmt::write_const_decl(s, at, types, buf, out),
-        Section::Functions => smt_fmt::write_fun_def(s, at, types, buf, out),
-        Section::KVars => smt_fmt::write_kvar_decl(s, at, types, buf, out),
+        Section::Datatypes => smt_fmt::write_datatype_decl(s, at, enc, buf, out),
+        Section::Constants => smt_fmt::write_const_decl(s, at, enc, buf, out),
+        Section::Functions => smt_fmt::write_fun_def(s, at, enc, buf, out),
+        Section::KVars => smt_fmt::write_kvar_decl(s, at, enc, buf, out),
     }
 }
 
@@ -124,18 +120,19 @@ fn put_item(
     s: &[u8],
     at: usize,
     section: Section,
-    types: Datatypes,
+    enc: &[u16],
     range: Range,
     buf: &mut [u8],
     p: Progress,
 ) -> Moved
-    ensures { λ r. ⌜ Puts alone range (itemText (encoderIn (now (s .entry)) types) section (now (s .entry)) at) (writing p (now (buf .entry))) (writing (r .progress) (now (buf .exit))) (r .at) ⌝ }
+    requires { ⌜ Chained (now s) (now enc) ⌝ }
+    ensures { λ r. ⌜ Puts alone range (itemText (encoderIn (now (s .entry)) (now (enc .entry))) section (now (s .entry)) at) (writing p (now (buf .entry))) (writing (r .progress) (now (buf .exit))) (r .at) ⌝ }
 {
     let seen = p.seen;
     if range.has(seen) {
         let len = p.len;
         let start = output::least(len, buf.len());
-        let sent = write_item(s, at, section, types, &mut buf[start..], Out::new());
+        let sent = write_item(s, at, section, enc, &mut buf[start..], Out::new());
         let out = sent.out;
         return Moved {
             at: sent.at,
@@ -154,20 +151,22 @@ fn put_item(
 
 // The items from a position to the section's end, each as a part.
 fn put_section(
-    s: &[u8],
+    file: &[u8],
     at: usize,
+    end: usize,
     section: Section,
-    types: Datatypes,
+    enc: &[u16],
     range: Range,
     buf: &mut [u8],
     p: Progress,
 ) -> Progress
-    ensures { λ r. ⌜ PutsAll each range (sectionOf (itemText (encoderIn (now (s .entry)) types) section) (now (s .entry)) at) (writing p (now (buf .entry))) (writing r (now (buf .exit))) ⌝ }
+    requires { ⌜ Chained (now file) (now enc) × (end ≤ length (now file)) ⌝ }
+    ensures { λ r. ⌜ PutsAll each range (sectionOf (itemText (encoderIn (now (file .entry)) (now (enc .entry))) section) (take end (now (file .entry))) at) (writing p (now (buf .entry))) (writing r (now (buf .exit))) ⌝ }
 {
     let mut q = at;
     let mut progress = p;
-    while q < s.len() {
-        let one = put_item(s, q, section, types, range, buf, progress);
+    while q < end {
+        let one = put_item(file, q, section, enc, range, buf, progress);
         let next = one.at;
         if next <= q {
             return progress;
@@ -178,115 +177,119 @@ fn put_section(
     progress
 }
 
-// Where a section begins.
-fn start_of(b: Bounds, section: Section) -> usize
-    ensures { λ r. ⌜ r ≡ startOf b section ⌝ }
-{
-    match section {
-        Section::Comments => b.comments,
-        Section::Datatypes => b.datatypes,
-        Section::Constants => b.constants,
-        Section::Functions => b.functions,
-        Section::KVars => b.kvars,
-    }
-}
-
-// Where it ends.
-fn end_of(b: Bounds, section: Section) -> usize
-    ensures { λ r. ⌜ r ≡ endOf b section ⌝ }
-{
-    match section {
-        Section::Comments => b.datatypes,
-        Section::Datatypes => b.constants,
-        Section::Constants => b.functions,
-        Section::Functions => b.kvars,
-        Section::KVars => b.constraint,
-    }
-}
-
 // The items of a section of the file, each as a part.
 fn put_items(
     file: &[u8],
     b: Bounds,
     section: Section,
+    enc: &[u16],
     range: Range,
     buf: &mut [u8],
     p: Progress,
 ) -> Progress
-    requires { ⌜ Inside (now file) b ⌝ }
-    ensures { λ r. ⌜ PutsAll each range (sectionTexts (now (file .entry)) b section) (writing p (now (buf .entry))) (writing r (now (buf .exit))) ⌝ }
+    requires { ⌜ Inside (now file) b × Chained (now file) (now enc) ⌝ }
+    ensures { λ r. ⌜ PutsAll each range (sectionTexts (now (file .entry)) (now (enc .entry)) b section) (writing p (now (buf .entry))) (writing r (now (buf .exit))) ⌝ }
 {
-    let at = start_of(b, section);
-    let end = end_of(b, section);
-    let types = Datatypes {
-        at: b.datatypes,
-        end: b.constants,
-    };
-    put_section(&file[..end], at, section, types, range, buf, p)
+    let at = inspect::start_of(b, section);
+    let end = inspect::end_of(b, section);
+    put_section(file, at, end, section, enc, range, buf, p)
 }
 
 // The declarations in section order, each as a part.
-fn put_declarations(file: &[u8], b: Bounds, range: Range, buf: &mut [u8], p: Progress) -> Progress
-    requires { ⌜ Inside (now file) b ⌝ }
-    ensures { λ r. ⌜ PutsAll each range (declarationTexts (now (file .entry)) b) (writing p (now (buf .entry))) (writing r (now (buf .exit))) ⌝ }
+fn put_declarations(
+    file: &[u8],
+    b: Bounds,
+    enc: &[u16],
+    range: Range,
+    buf: &mut [u8],
+    p: Progress,
+) -> Progress
+    requires { ⌜ Inside (now file) b × Chained (now file) (now enc) ⌝ }
+    ensures { λ r. ⌜ PutsAll each range (declarationTexts (now (file .entry)) (now (enc .entry)) b) (writing p (now (buf .entry))) (writing r (now (buf .exit))) ⌝ }
 {
-    let p1 = put_items(file, b, Section::Datatypes, range, buf, p);
-    let p2 = put_items(file, b, Section::Constants, range, buf, p1);
-    let p3 = put_items(file, b, Section::Functions, range, buf, p2);
-    put_items(file, b, Section::KVars, range, buf, p3)
+    let p1 = put_items(file, b, Section::Datatypes, enc, range, buf, p);
+    let p2 = put_items(file, b, Section::Constants, enc, range, buf, p1);
+    let p3 = put_items(file, b, Section::Functions, enc, range, buf, p2);
+    put_items(file, b, Section::KVars, enc, range, buf, p3)
 }
 
-// The assertions, each as a part.
-fn put_assertions(file: &[u8], b: Bounds, range: Range, buf: &mut [u8], p: Progress) -> Progress
-    requires { ⌜ Inside (now file) b ⌝ }
-    ensures { λ r. ⌜ PutsAll (assertionParts (now (file .entry)) b) range (constraintIn (now (file .entry)) b) (writing p (now (buf .entry))) (writing r (now (buf .exit))) ⌝ }
+// The assertions, each as a part. The text of a path is kept in two lent slices, whatever they hold.
+fn put_kept(
+    file: &[u8],
+    b: Bounds,
+    enc: &[u16],
+    range: Range,
+    buf: &mut [u8],
+    p: Progress,
+    vars: &mut [u8],
+    guards: &mut [u8],
+) -> Progress
+    requires { ⌜ Inside (now file) b × Chained (now file) (now enc) ⌝ }
+    requires { ⌜ (length (now vars) ≤ 16384) × (length (now guards) ≤ 16384) ⌝ }
+    ensures { λ r. ⌜ PutsAll (assertionParts (now (file .entry)) (now (enc .entry))) range (constraintIn (now (file .entry)) b) (writing p (now (buf .entry))) (writing r (now (buf .exit))) ⌝ }
 {
-    let end = b.end;
     let at = b.constraint;
-    let types = Datatypes {
-        at: b.datatypes,
-        end: b.constants,
-    };
     let path = [0usize; 0];
-    let mut vars = [0u8; 16384];
-    let mut guards = [0u8; 16384];
     let kept = Kept::start();
     let moved = flatten::flatten_constraint(
-        &file[..end],
+        file,
         at,
         256,
         &path,
-        types,
+        enc,
         range,
         buf,
         p,
-        &mut vars,
-        &mut guards,
+        vars,
+        guards,
         kept,
     );
     moved.progress
 }
 
-// Puts the parts in the range into the buffer, one behind the other: what has room is stored, and all is counted.
-pub fn write_smt_horn(file: &[u8], b: Bounds, range: Range, buf: &mut [u8]) -> Progress
-    requires { ⌜ Inside (now file) b ⌝ }
-    ensures { λ r. ⌜ PutsScript (now (file .entry)) b range (fresh (now (buf .entry))) (writing r (now (buf .exit))) ⌝ }
+// The assertions, each as a part. A short file does not wait for long slices to be cleared.
+fn put_assertions(
+    file: &[u8],
+    b: Bounds,
+    enc: &[u16],
+    range: Range,
+    buf: &mut [u8],
+    p: Progress,
+) -> Progress
+    requires { ⌜ Inside (now file) b × Chained (now file) (now enc) ⌝ }
+    ensures { λ r. ⌜ PutsAll (assertionParts (now (file .entry)) (now (enc .entry))) range (constraintIn (now (file .entry)) b) (writing p (now (buf .entry))) (writing r (now (buf .exit))) ⌝ }
+{
+    if file.len() <= 1000 {
+        let mut vars = [0u8; 2048];
+        let mut guards = [0u8; 2048];
+        return put_kept(file, b, enc, range, buf, p, &mut vars, &mut guards);
+    }
+    let mut vars = [0u8; 16384];
+    let mut guards = [0u8; 16384];
+    put_kept(file, b, enc, range, buf, p, &mut vars, &mut guards)
+}
+
+// Puts the parts in the range into the buffer, one behind the other: what has room is stored, and all is counted. The encoder is a table of
+// the names that the task declares.
+pub fn write_smt_horn(file: &[u8], b: Bounds, enc: &[u16], range: Range, buf: &mut [u8]) -> Progress
+    requires { ⌜ Inside (now file) b × Chained (now file) (now enc) ⌝ }
+    ensures { λ r. ⌜ PutsScript (now (file .entry)) (now (enc .entry)) b range (fresh (now (buf .entry))) (writing r (now (buf .exit))) ⌝ }
 {
     let end = b.datatypes;
     let at = b.comments;
     let p0 = Progress::start();
     let p1 = put_opening(&file[..end], at, range, buf, p0);
-    let p2 = put_declarations(file, b, range, buf, p1);
+    let p2 = put_declarations(file, b, enc, range, buf, p1);
     let p3 = put_text(b"\n", range, buf, p2);
-    let p4 = put_assertions(file, b, range, buf, p3);
+    let p4 = put_assertions(file, b, enc, range, buf, p3);
     put_text(b"\n(check-sat)\n", range, buf, p4)
 }
 
 // Counts the parts, and measures those in the range.
-pub fn measure(file: &[u8], b: Bounds, range: Range) -> Progress
-    requires { ⌜ Inside (now file) b ⌝ }
-    ensures { λ r. ⌜ Measured (now (file .entry)) b range r ⌝ }
+pub fn measure(file: &[u8], b: Bounds, enc: &[u16], range: Range) -> Progress
+    requires { ⌜ Inside (now file) b × Chained (now file) (now enc) ⌝ }
+    ensures { λ r. ⌜ Measured (now (file .entry)) (now (enc .entry)) b range r ⌝ }
 {
     let mut none = [0u8; 0];
-    write_smt_horn(file, b, range, &mut none)
+    write_smt_horn(file, b, enc, range, &mut none)
 }

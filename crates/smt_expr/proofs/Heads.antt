@@ -1,6 +1,6 @@
 -- Whether an application's head is written with the output sort is told by its node.
 use mathlib.Core.Path.{_≡_, refl, sym, ap, _∙_}
-use mathlib.Core.Bool.{Bool, true, false}
+use mathlib.Core.Bool.{Bool, false}
 use mathlib.Core.List.{List, [], _∷_}
 use Prim.Native.Nat.{ℕ, zero, suc}
 use types.Run.{OneOf, miss}
@@ -17,7 +17,7 @@ use Rattle.task.specs.Node.{bytesOf, exprOf, ExprAt}
 use Rattle.task.proofs.ExprNode.{the-type}
 use Rattle.task.proofs.Reading.{got-refuse}
 use Rattle.smt_text.specs.Encoder.{Encoder, isQualified}
-use Rattle.smt_sort.specs.declared.Datatypes.{Datatypes}
+use Rattle.names.specs.declared.Kind.the-variants.{Constructor}
 use Rattle.smt_sort.specs.Section.{declaredIn, encoderIn}
 use Rattle.smt_expr.specs.Parts.{TellsQualified}
 
@@ -77,8 +77,8 @@ module _ (enc : Encoder) where
   unfolding exprOf
   tells-func s at n f p t e e' k = told s at n t e (λ l h p g. k ∙ ap (qualifiedIn enc) (sym (ap (exprOf s l (decExpr l)) e') ∙ g))
 
-pub tells-var : (s : List ℕ) (types : Datatypes) (at : ℕ) (n : ExprNode) (x : Span) (p : ℕ) (t : Bool) → ExprAt s at n → n ≡ expr-node.Var x p
-    → t ≡ isOne (bytesOf s x) (declaredIn s types true) → TellsQualified (encoderIn s types) s at t
+pub tells-var : (s enc : List ℕ) (at : ℕ) (n : ExprNode) (x : Span) (p : ℕ) (t : Bool) → ExprAt s at n → n ≡ expr-node.Var x p
+    → t ≡ isOne (bytesOf s x) (declaredIn s enc Constructor) → TellsQualified (encoderIn s enc) s at t
 unfolding exprOf encoderIn declaredIn
-tells-var s types at n x p t e e' k =
-    told (encoderIn s types) s at n t e (λ l h p g. k ∙ ap (qualifiedIn (encoderIn s types)) (sym (ap (exprOf s l (decExpr l)) e') ∙ g))
+tells-var s enc at n x p t e e' k =
+    told (encoderIn s enc) s at n t e (λ l h p g. k ∙ ap (qualifiedIn (encoderIn s enc)) (sym (ap (exprOf s l (decExpr l)) e') ∙ g))

@@ -1,6 +1,6 @@
-// Writers of expressions. As those of sorts they read any bytes and ask nothing.
+// Writers of expressions. As those of sorts they read any bytes, and ask only that the encoder can be searched.
+use names::Kind;
 use output::Out;
-use smt_sort::Datatypes;
 use smt_word::Sent;
 use task::BinOp;
 use task::BinRel;
@@ -14,31 +14,27 @@ ghost use Rattle.task.specs.Decode.{many, given, decExpr};
 ghost use Rattle.task.specs.Node.{exprOf};
 ghost use Rattle.smt_text.specs.Text.{write-bin-op, write-expr};
 ghost use Rattle.output.specs.Emit.{output, Sends};
+ghost use Rattle.names.specs.Table.{Chained};
 ghost use Rattle.smt_sort.specs.Section.{encoderIn};
 ghost use Rattle.smt_expr.specs.Parts.{two, exprsText, unaryText, binaryText, atomText, naryText, TellsQualified, HeadSends};
 
 // Whether an expression is written with the output sort as an application's head: a declared constructor, SetEmpty or MapDefault.
-fn is_qualified(s: &[u8], at: usize, types: Datatypes) -> bool
-    ensures { λ r. ⌜ TellsQualified (encoderIn (now (s .entry)) types) (now (s .entry)) at r ⌝ }
+fn is_qualified(s: &[u8], at: usize, enc: &[u16]) -> bool
+    requires { ⌜ Chained (now s) (now enc) ⌝ }
+    ensures { λ r. ⌜ TellsQualified (encoderIn (now (s .entry)) (now (enc .entry))) (now (s .entry)) at r ⌝ }
 {
     let node = task::read_expr_node(s, at);
     match node {
-        ExprNode::Var(x, _) => smt_sort::is_declared(s, types, x, true),
+        ExprNode::Var(x, _) => smt_sort::is_declared(s, enc, x, Kind::Constructor),
         ExprNode::ThyFunc(f, _) => task_check::needs_sort(f),
         _ => false,
     }
 }
 
 // Sends the expression at a position.
-pub fn write_expr(
-    s: &[u8],
-    at: usize,
-    levels: usize,
-    types: Datatypes,
-    buf: &mut [u8],
-    out: Out,
-) -> Sent
-    ensures { λ r. ⌜ Sends (write-expr (encoderIn (now (s .entry)) types)) (decExpr levels (now (s .entry)) at) (output (now (buf .entry)) (out .len)) (output (now (buf .exit)) (r .out .len)) (r .at) ⌝ }
+pub fn write_expr(s: &[u8], at: usize, levels: usize, enc: &[u16], buf: &mut [u8], out: Out) -> Sent
+    requires { ⌜ Chained (now s) (now enc) ⌝ }
+    ensures { λ r. ⌜ Sends (write-expr (encoderIn (now (s .entry)) (now (enc .entry)))) (decExpr levels (now (s .entry)) at) (output (now (buf .entry)) (out .len)) (output (now (buf .exit)) (r .out .len)) (r .at) ⌝ }
 {
     if levels == 0 {
         return Sent { at, out };
@@ -53,20 +49,20 @@ pub fn write_expr(
         ExprNode::BitVec(lo, hi, w, p) => smt_word::write_bit_vec(lo, hi, w, p, buf, out),
         ExprNode::Var(x, p) => smt_word::write_var(s, x, p, buf, out),
         ExprNode::WKVar(p) => Sent { at: p, out },
-        ExprNode::Neg(p) => write_unary(s, b"-", p, below, types, buf, out),
-        ExprNode::Not(p) => write_unary(s, b"not", p, below, types, buf, out),
-        ExprNode::BinaryOp(op, p) => write_bin_op(s, op, p, below, types, buf, out),
-        ExprNode::Atom(rel, p) => write_atom(s, rel, p, below, types, buf, out),
-        ExprNode::Imp(p) => write_binary(s, b"=>", p, below, types, buf, out),
-        ExprNode::Iff(p) => write_binary(s, b"=", p, below, types, buf, out),
-        ExprNode::And(n, p) => write_nary(s, b"and", n, b"true", p, below, types, buf, out),
-        ExprNode::Or(n, p) => write_nary(s, b"or", n, b"false", p, below, types, buf, out),
-        ExprNode::IfThenElse(p) => write_ite(s, p, below, types, buf, out),
-        ExprNode::Let(x, p) => write_let(s, x, p, below, types, buf, out),
-        ExprNode::App(has, p) => write_app(s, has, p, below, types, buf, out),
+        ExprNode::Neg(p) => write_unary(s, b"-", p, below, enc, buf, out),
+        ExprNode::Not(p) => write_unary(s, b"not", p, below, enc, buf, out),
+        ExprNode::BinaryOp(op, p) => write_bin_op(s, op, p, below, enc, buf, out),
+        ExprNode::Atom(rel, p) => write_atom(s, rel, p, below, enc, buf, out),
+        ExprNode::Imp(p) => write_binary(s, b"=>", p, below, enc, buf, out),
+        ExprNode::Iff(p) => write_binary(s, b"=", p, below, enc, buf, out),
+        ExprNode::And(n, p) => write_nary(s, b"and", n, b"true", p, below, enc, buf, out),
+        ExprNode::Or(n, p) => write_nary(s, b"or", n, b"false", p, below, enc, buf, out),
+        ExprNode::IfThenElse(p) => write_ite(s, p, below, enc, buf, out),
+        ExprNode::Let(x, p) => write_let(s, x, p, below, enc, buf, out),
+        ExprNode::App(has, p) => write_app(s, has, p, below, enc, buf, out),
         ExprNode::ThyFunc(f, p) => smt_word::write_function(f, p, buf, out),
-        ExprNode::IsCtor(x, p) => write_is_ctor(s, x, p, below, types, buf, out),
-        ExprNode::Quantifier(q, n, p) => write_quantifier(s, q, n, p, below, types, buf, out),
+        ExprNode::IsCtor(x, p) => write_is_ctor(s, x, p, below, enc, buf, out),
+        ExprNode::Quantifier(q, n, p) => write_quantifier(s, q, n, p, below, enc, buf, out),
         ExprNode::Refused => Sent { at, out },
     }
 }
@@ -77,18 +73,19 @@ pub fn write_exprs(
     at: usize,
     n: u64,
     levels: usize,
-    types: Datatypes,
+    enc: &[u16],
     buf: &mut [u8],
     out: Out,
 ) -> Sent
-    ensures { λ r. ⌜ Sends (exprsText (encoderIn (now (s .entry)) types)) (many Exprs.none Exprs.more (decExpr levels) n (now (s .entry)) at) (output (now (buf .entry)) (out .len)) (output (now (buf .exit)) (r .out .len)) (r .at) ⌝ }
+    requires { ⌜ Chained (now s) (now enc) ⌝ }
+    ensures { λ r. ⌜ Sends (exprsText (encoderIn (now (s .entry)) (now (enc .entry)))) (many Exprs.none Exprs.more (decExpr levels) n (now (s .entry)) at) (output (now (buf .entry)) (out .len)) (output (now (buf .exit)) (r .out .len)) (r .at) ⌝ }
 {
     let mut p = at;
     let mut left = n;
     let mut sent = out;
     while 0 < left {
         let spaced = sent.byte(buf, b' ');
-        let one = write_expr(s, p, levels, types, buf, spaced);
+        let one = write_expr(s, p, levels, enc, buf, spaced);
         p = one.at;
         sent = one.out;
         left -= 1;
@@ -102,16 +99,17 @@ fn write_unary(
     op: &[u8],
     at: usize,
     levels: usize,
-    types: Datatypes,
+    enc: &[u16],
     buf: &mut [u8],
     out: Out,
 ) -> Sent
-    ensures { λ r. ⌜ Sends (unaryText (encoderIn (now (s .entry)) types) (now (op .entry))) (decExpr levels (now (s .entry)) at) (output (now (buf .entry)) (out .len)) (output (now (buf .exit)) (r .out .len)) (r .at) ⌝ }
+    requires { ⌜ Chained (now s) (now enc) ⌝ }
+    ensures { λ r. ⌜ Sends (unaryText (encoderIn (now (s .entry)) (now (enc .entry))) (now (op .entry))) (decExpr levels (now (s .entry)) at) (output (now (buf .entry)) (out .len)) (output (now (buf .exit)) (r .out .len)) (r .at) ⌝ }
 {
     let opened = out.byte(buf, b'(');
     let named = opened.bytes(buf, op);
     let spaced = named.byte(buf, b' ');
-    let operand = write_expr(s, at, levels, types, buf, spaced);
+    let operand = write_expr(s, at, levels, enc, buf, spaced);
     let sent = operand.out;
     let closed = sent.byte(buf, b')');
     Sent {
@@ -126,19 +124,20 @@ fn write_binary(
     op: &[u8],
     at: usize,
     levels: usize,
-    types: Datatypes,
+    enc: &[u16],
     buf: &mut [u8],
     out: Out,
 ) -> Sent
-    ensures { λ r. ⌜ Sends (binaryText (encoderIn (now (s .entry)) types) (now (op .entry))) (two levels (now (s .entry)) at) (output (now (buf .entry)) (out .len)) (output (now (buf .exit)) (r .out .len)) (r .at) ⌝ }
+    requires { ⌜ Chained (now s) (now enc) ⌝ }
+    ensures { λ r. ⌜ Sends (binaryText (encoderIn (now (s .entry)) (now (enc .entry))) (now (op .entry))) (two levels (now (s .entry)) at) (output (now (buf .entry)) (out .len)) (output (now (buf .exit)) (r .out .len)) (r .at) ⌝ }
 {
     let opened = out.byte(buf, b'(');
     let named = opened.bytes(buf, op);
     let spaced = named.byte(buf, b' ');
-    let left = write_expr(s, at, levels, types, buf, spaced);
+    let left = write_expr(s, at, levels, enc, buf, spaced);
     let first = left.out;
     let parted = first.byte(buf, b' ');
-    let right = write_expr(s, left.at, levels, types, buf, parted);
+    let right = write_expr(s, left.at, levels, enc, buf, parted);
     let second = right.out;
     let closed = second.byte(buf, b')');
     Sent {
@@ -153,18 +152,19 @@ fn write_bin_op(
     op: BinOp,
     at: usize,
     levels: usize,
-    types: Datatypes,
+    enc: &[u16],
     buf: &mut [u8],
     out: Out,
 ) -> Sent
-    ensures { λ r. ⌜ Sends (binaryText (encoderIn (now (s .entry)) types) (write-bin-op op)) (two levels (now (s .entry)) at) (output (now (buf .entry)) (out .len)) (output (now (buf .exit)) (r .out .len)) (r .at) ⌝ }
+    requires { ⌜ Chained (now s) (now enc) ⌝ }
+    ensures { λ r. ⌜ Sends (binaryText (encoderIn (now (s .entry)) (now (enc .entry))) (write-bin-op op)) (two levels (now (s .entry)) at) (output (now (buf .entry)) (out .len)) (output (now (buf .exit)) (r .out .len)) (r .at) ⌝ }
 {
     match op {
-        BinOp::Add => write_binary(s, b"+", at, levels, types, buf, out),
-        BinOp::Sub => write_binary(s, b"-", at, levels, types, buf, out),
-        BinOp::Mul => write_binary(s, b"*", at, levels, types, buf, out),
-        BinOp::Div => write_binary(s, b"div", at, levels, types, buf, out),
-        BinOp::Mod => write_binary(s, b"mod", at, levels, types, buf, out),
+        BinOp::Add => write_binary(s, b"+", at, levels, enc, buf, out),
+        BinOp::Sub => write_binary(s, b"-", at, levels, enc, buf, out),
+        BinOp::Mul => write_binary(s, b"*", at, levels, enc, buf, out),
+        BinOp::Div => write_binary(s, b"div", at, levels, enc, buf, out),
+        BinOp::Mod => write_binary(s, b"mod", at, levels, enc, buf, out),
     }
 }
 
@@ -174,28 +174,30 @@ fn write_atom(
     rel: BinRel,
     at: usize,
     levels: usize,
-    types: Datatypes,
+    enc: &[u16],
     buf: &mut [u8],
     out: Out,
 ) -> Sent
-    ensures { λ r. ⌜ Sends (atomText (encoderIn (now (s .entry)) types) rel) (two levels (now (s .entry)) at) (output (now (buf .entry)) (out .len)) (output (now (buf .exit)) (r .out .len)) (r .at) ⌝ }
+    requires { ⌜ Chained (now s) (now enc) ⌝ }
+    ensures { λ r. ⌜ Sends (atomText (encoderIn (now (s .entry)) (now (enc .entry))) rel) (two levels (now (s .entry)) at) (output (now (buf .entry)) (out .len)) (output (now (buf .exit)) (r .out .len)) (r .at) ⌝ }
 {
     match rel {
-        BinRel::Eq => write_binary(s, b"=", at, levels, types, buf, out),
-        BinRel::Ne => write_ne(s, at, levels, types, buf, out),
-        BinRel::Gt => write_binary(s, b">", at, levels, types, buf, out),
-        BinRel::Ge => write_binary(s, b">=", at, levels, types, buf, out),
-        BinRel::Lt => write_binary(s, b"<", at, levels, types, buf, out),
-        BinRel::Le => write_binary(s, b"<=", at, levels, types, buf, out),
+        BinRel::Eq => write_binary(s, b"=", at, levels, enc, buf, out),
+        BinRel::Ne => write_ne(s, at, levels, enc, buf, out),
+        BinRel::Gt => write_binary(s, b">", at, levels, enc, buf, out),
+        BinRel::Ge => write_binary(s, b">=", at, levels, enc, buf, out),
+        BinRel::Lt => write_binary(s, b"<", at, levels, enc, buf, out),
+        BinRel::Le => write_binary(s, b"<=", at, levels, enc, buf, out),
     }
 }
 
 // That two operands are not equal.
-fn write_ne(s: &[u8], at: usize, levels: usize, types: Datatypes, buf: &mut [u8], out: Out) -> Sent
-    ensures { λ r. ⌜ Sends (atomText (encoderIn (now (s .entry)) types) BinRel.Ne) (two levels (now (s .entry)) at) (output (now (buf .entry)) (out .len)) (output (now (buf .exit)) (r .out .len)) (r .at) ⌝ }
+fn write_ne(s: &[u8], at: usize, levels: usize, enc: &[u16], buf: &mut [u8], out: Out) -> Sent
+    requires { ⌜ Chained (now s) (now enc) ⌝ }
+    ensures { λ r. ⌜ Sends (atomText (encoderIn (now (s .entry)) (now (enc .entry))) BinRel.Ne) (two levels (now (s .entry)) at) (output (now (buf .entry)) (out .len)) (output (now (buf .exit)) (r .out .len)) (r .at) ⌝ }
 {
     let opened = out.bytes(buf, b"(not ");
-    let equal = write_binary(s, b"=", at, levels, types, buf, opened);
+    let equal = write_binary(s, b"=", at, levels, enc, buf, opened);
     let sent = equal.out;
     let closed = sent.byte(buf, b')');
     Sent {
@@ -212,18 +214,19 @@ fn write_nary(
     empty: &[u8],
     at: usize,
     levels: usize,
-    types: Datatypes,
+    enc: &[u16],
     buf: &mut [u8],
     out: Out,
 ) -> Sent
-    ensures { λ r. ⌜ Sends (naryText (encoderIn (now (s .entry)) types) (now (op .entry)) (now (empty .entry))) (many Exprs.none Exprs.more (decExpr levels) n (now (s .entry)) at) (output (now (buf .entry)) (out .len)) (output (now (buf .exit)) (r .out .len)) (r .at) ⌝ }
+    requires { ⌜ Chained (now s) (now enc) ⌝ }
+    ensures { λ r. ⌜ Sends (naryText (encoderIn (now (s .entry)) (now (enc .entry))) (now (op .entry)) (now (empty .entry))) (many Exprs.none Exprs.more (decExpr levels) n (now (s .entry)) at) (output (now (buf .entry)) (out .len)) (output (now (buf .exit)) (r .out .len)) (r .at) ⌝ }
 {
     if n == 0 {
         return smt_word::write_word(empty, at, buf, out);
     }
     let opened = out.byte(buf, b'(');
     let named = opened.bytes(buf, op);
-    let members = write_exprs(s, at, n, levels, types, buf, named);
+    let members = write_exprs(s, at, n, levels, enc, buf, named);
     let sent = members.out;
     let closed = sent.byte(buf, b')');
     Sent {
@@ -233,17 +236,18 @@ fn write_nary(
 }
 
 // A choice of two.
-fn write_ite(s: &[u8], at: usize, levels: usize, types: Datatypes, buf: &mut [u8], out: Out) -> Sent
-    ensures { λ r. ⌜ Sends (write-expr (encoderIn (now (s .entry)) types)) (exprOf (now (s .entry)) levels (decExpr levels) (ExprNode.IfThenElse at)) (output (now (buf .entry)) (out .len)) (output (now (buf .exit)) (r .out .len)) (r .at) ⌝ }
+fn write_ite(s: &[u8], at: usize, levels: usize, enc: &[u16], buf: &mut [u8], out: Out) -> Sent
+    requires { ⌜ Chained (now s) (now enc) ⌝ }
+    ensures { λ r. ⌜ Sends (write-expr (encoderIn (now (s .entry)) (now (enc .entry)))) (exprOf (now (s .entry)) levels (decExpr levels) (ExprNode.IfThenElse at)) (output (now (buf .entry)) (out .len)) (output (now (buf .exit)) (r .out .len)) (r .at) ⌝ }
 {
     let opened = out.bytes(buf, b"(ite ");
-    let test = write_expr(s, at, levels, types, buf, opened);
+    let test = write_expr(s, at, levels, enc, buf, opened);
     let tested = test.out;
     let parted = tested.byte(buf, b' ');
-    let yes = write_expr(s, test.at, levels, types, buf, parted);
+    let yes = write_expr(s, test.at, levels, enc, buf, parted);
     let chosen = yes.out;
     let again = chosen.byte(buf, b' ');
-    let no = write_expr(s, yes.at, levels, types, buf, again);
+    let no = write_expr(s, yes.at, levels, enc, buf, again);
     let sent = no.out;
     let closed = sent.byte(buf, b')');
     Sent {
@@ -258,19 +262,20 @@ fn write_let(
     x: Span,
     at: usize,
     levels: usize,
-    types: Datatypes,
+    enc: &[u16],
     buf: &mut [u8],
     out: Out,
 ) -> Sent
-    ensures { λ r. ⌜ Sends (write-expr (encoderIn (now (s .entry)) types)) (exprOf (now (s .entry)) levels (decExpr levels) (ExprNode.Let x at)) (output (now (buf .entry)) (out .len)) (output (now (buf .exit)) (r .out .len)) (r .at) ⌝ }
+    requires { ⌜ Chained (now s) (now enc) ⌝ }
+    ensures { λ r. ⌜ Sends (write-expr (encoderIn (now (s .entry)) (now (enc .entry)))) (exprOf (now (s .entry)) levels (decExpr levels) (ExprNode.Let x at)) (output (now (buf .entry)) (out .len)) (output (now (buf .exit)) (r .out .len)) (r .at) ⌝ }
 {
     let opened = out.bytes(buf, b"(let ((");
     let named = opened.name(buf, s, x);
     let spaced = named.byte(buf, b' ');
-    let value = write_expr(s, at, levels, types, buf, spaced);
+    let value = write_expr(s, at, levels, enc, buf, spaced);
     let bound = value.out;
     let inner = bound.bytes(buf, b")) ");
-    let body = write_expr(s, value.at, levels, types, buf, inner);
+    let body = write_expr(s, value.at, levels, enc, buf, inner);
     let sent = body.out;
     let closed = sent.byte(buf, b')');
     Sent {
@@ -285,16 +290,17 @@ fn write_is_ctor(
     x: Span,
     at: usize,
     levels: usize,
-    types: Datatypes,
+    enc: &[u16],
     buf: &mut [u8],
     out: Out,
 ) -> Sent
-    ensures { λ r. ⌜ Sends (write-expr (encoderIn (now (s .entry)) types)) (exprOf (now (s .entry)) levels (decExpr levels) (ExprNode.IsCtor x at)) (output (now (buf .entry)) (out .len)) (output (now (buf .exit)) (r .out .len)) (r .at) ⌝ }
+    requires { ⌜ Chained (now s) (now enc) ⌝ }
+    ensures { λ r. ⌜ Sends (write-expr (encoderIn (now (s .entry)) (now (enc .entry)))) (exprOf (now (s .entry)) levels (decExpr levels) (ExprNode.IsCtor x at)) (output (now (buf .entry)) (out .len)) (output (now (buf .exit)) (r .out .len)) (r .at) ⌝ }
 {
     let opened = out.bytes(buf, b"((_ is ");
     let named = opened.name(buf, s, x);
     let spaced = named.bytes(buf, b") ");
-    let operand = write_expr(s, at, levels, types, buf, spaced);
+    let operand = write_expr(s, at, levels, enc, buf, spaced);
     let sent = operand.out;
     let closed = sent.byte(buf, b')');
     Sent {
@@ -310,18 +316,19 @@ fn write_quantifier(
     n: u64,
     at: usize,
     levels: usize,
-    types: Datatypes,
+    enc: &[u16],
     buf: &mut [u8],
     out: Out,
 ) -> Sent
-    ensures { λ r. ⌜ Sends (write-expr (encoderIn (now (s .entry)) types)) (exprOf (now (s .entry)) levels (decExpr levels) (ExprNode.Quantifier q n at)) (output (now (buf .entry)) (out .len)) (output (now (buf .exit)) (r .out .len)) (r .at) ⌝ }
+    requires { ⌜ Chained (now s) (now enc) ⌝ }
+    ensures { λ r. ⌜ Sends (write-expr (encoderIn (now (s .entry)) (now (enc .entry)))) (exprOf (now (s .entry)) levels (decExpr levels) (ExprNode.Quantifier q n at)) (output (now (buf .entry)) (out .len)) (output (now (buf .exit)) (r .out .len)) (r .at) ⌝ }
 {
     let opened = smt_word::open_quantifier(q, buf, out);
     let spaced = opened.byte(buf, b' ');
-    let names = smt_sort::write_binder_list(s, at, n, levels, types, buf, spaced);
+    let names = smt_sort::write_binder_list(s, at, n, levels, enc, buf, spaced);
     let listed = names.out;
     let parted = listed.byte(buf, b' ');
-    let body = write_expr(s, names.at, levels, types, buf, parted);
+    let body = write_expr(s, names.at, levels, enc, buf, parted);
     let sent = body.out;
     let closed = sent.byte(buf, b')');
     Sent {
@@ -337,19 +344,20 @@ fn write_application_head(
     from: usize,
     at: usize,
     levels: usize,
-    types: Datatypes,
+    enc: &[u16],
     buf: &mut [u8],
     out: Out,
 ) -> Sent
-    ensures { λ r. ⌜ HeadSends (encoderIn (now (s .entry)) types) (given levels has (now (s .entry)) from) (decExpr levels (now (s .entry)) at) (output (now (buf .entry)) (out .len)) (output (now (buf .exit)) (r .out .len)) (r .at) ⌝ }
+    requires { ⌜ Chained (now s) (now enc) ⌝ }
+    ensures { λ r. ⌜ HeadSends (encoderIn (now (s .entry)) (now (enc .entry))) (given levels has (now (s .entry)) from) (decExpr levels (now (s .entry)) at) (output (now (buf .entry)) (out .len)) (output (now (buf .exit)) (r .out .len)) (r .at) ⌝ }
 {
     if has {
-        if is_qualified(s, at, types) {
+        if is_qualified(s, at, enc) {
             let opened = out.bytes(buf, b"(as ");
-            let head = write_expr(s, at, levels, types, buf, opened);
+            let head = write_expr(s, at, levels, enc, buf, opened);
             let named = head.out;
             let spaced = named.byte(buf, b' ');
-            let sort = smt_sort::write_sort(s, from, levels, types, buf, spaced);
+            let sort = smt_sort::write_sort(s, from, levels, enc, buf, spaced);
             let sent = sort.out;
             let closed = sent.byte(buf, b')');
             return Sent {
@@ -357,9 +365,9 @@ fn write_application_head(
                 out: closed,
             };
         }
-        return write_expr(s, at, levels, types, buf, out);
+        return write_expr(s, at, levels, enc, buf, out);
     }
-    write_expr(s, at, levels, types, buf, out)
+    write_expr(s, at, levels, enc, buf, out)
 }
 
 // An application: the number of its arguments stands behind its head.
@@ -368,11 +376,12 @@ fn write_app(
     has: bool,
     at: usize,
     levels: usize,
-    types: Datatypes,
+    enc: &[u16],
     buf: &mut [u8],
     out: Out,
 ) -> Sent
-    ensures { λ r. ⌜ Sends (write-expr (encoderIn (now (s .entry)) types)) (exprOf (now (s .entry)) levels (decExpr levels) (ExprNode.App has at)) (output (now (buf .entry)) (out .len)) (output (now (buf .exit)) (r .out .len)) (r .at) ⌝ }
+    requires { ⌜ Chained (now s) (now enc) ⌝ }
+    ensures { λ r. ⌜ Sends (write-expr (encoderIn (now (s .entry)) (now (enc .entry)))) (exprOf (now (s .entry)) levels (decExpr levels) (ExprNode.App has at)) (output (now (buf .entry)) (out .len)) (output (now (buf .exit)) (r .out .len)) (r .at) ⌝ }
 {
     let sort = task_check::check_given(s, has, at, levels);
     let Walked::Next(q, _) = sort else {
@@ -387,14 +396,14 @@ fn write_app(
         return Sent { at, out };
     };
     if n == 0 {
-        let bare = write_application_head(s, has, at, q, levels, types, buf, out);
+        let bare = write_application_head(s, has, at, q, levels, enc, buf, out);
         let sent = bare.out;
         return Sent { at: t, out: sent };
     }
     let opened = out.byte(buf, b'(');
-    let head = write_application_head(s, has, at, q, levels, types, buf, opened);
+    let head = write_application_head(s, has, at, q, levels, enc, buf, opened);
     let named = head.out;
-    let args = write_exprs(s, t, n, levels, types, buf, named);
+    let args = write_exprs(s, t, n, levels, enc, buf, named);
     let sent = args.out;
     let closed = sent.byte(buf, b')');
     Sent {

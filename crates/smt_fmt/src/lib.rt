@@ -1,7 +1,6 @@
 // The port of `smt_fmt.rs` with `SmtOptions::HORN`: predicates and declarations, on the writers of sorts and expressions. As those they read
-// any bytes and ask nothing. With them `write_kvar_decl` of `smt_horn.rs`.
+// any bytes, and ask only that the encoder can be searched. With them `write_kvar_decl` of `smt_horn.rs`.
 use output::Out;
-use smt_sort::Datatypes;
 use smt_word::Sent;
 use task::FlagRead;
 use task::Number;
@@ -17,6 +16,7 @@ ghost use Rattle.task.specs.Decode.{many, name, decSort, decExpr, decPred, body
 ghost use Rattle.task.specs.Node.{bytesOf};
 ghost use Rattle.smt_text.specs.Text.{spaced, sexp-list, write-pred, write-ctor, write-parameters, write-datatype-decl, write-const-decl, write-fun-def, write-kvar-decl};
 ghost use Rattle.output.specs.Emit.{output, emits, Sends};
+ghost use Rattle.names.specs.Table.{Chained};
 ghost use Rattle.smt_sort.specs.Section.{encoderIn};
 ghost use Rattle.smt_fmt.specs.Items.{kvarText, ctorsText, ctorList, bodyText, openText, openingText, signed, ArgSends, ZipSends, SignatureSends, DefinedSends, BodySends};
 
@@ -34,11 +34,12 @@ fn write_kvar(
     n: u64,
     at: usize,
     levels: usize,
-    types: Datatypes,
+    enc: &[u16],
     buf: &mut [u8],
     out: Out,
 ) -> Sent
-    ensures { λ r. ⌜ Sends (kvarText (encoderIn (now (s .entry)) types) (bytesOf (now (s .entry)) x)) (many Exprs.none Exprs.more (decExpr levels) n (now (s .entry)) at) (output (now (buf .entry)) (out .len)) (output (now (buf .exit)) (r .out .len)) (r .at) ⌝ }
+    requires { ⌜ Chained (now s) (now enc) ⌝ }
+    ensures { λ r. ⌜ Sends (kvarText (encoderIn (now (s .entry)) (now (enc .entry))) (bytesOf (now (s .entry)) x)) (many Exprs.none Exprs.more (decExpr levels) n (now (s .entry)) at) (output (now (buf .entry)) (out .len)) (output (now (buf .exit)) (r .out .len)) (r .at) ⌝ }
 {
     if n == 0 {
         let named = out.name(buf, s, x);
@@ -46,7 +47,7 @@ fn write_kvar(
     }
     let opened = out.byte(buf, b'(');
     let named = opened.name(buf, s, x);
-    let args = smt_expr::write_exprs(s, at, n, levels, types, buf, named);
+    let args = smt_expr::write_exprs(s, at, n, levels, enc, buf, named);
     let sent = args.out;
     let closed = sent.byte(buf, b')');
     Sent {
@@ -56,15 +57,9 @@ fn write_kvar(
 }
 
 // Sends the predicate at a position.
-pub fn write_pred(
-    s: &[u8],
-    at: usize,
-    levels: usize,
-    types: Datatypes,
-    buf: &mut [u8],
-    out: Out,
-) -> Sent
-    ensures { λ r. ⌜ Sends (write-pred (encoderIn (now (s .entry)) types)) (decPred levels (now (s .entry)) at) (output (now (buf .entry)) (out .len)) (output (now (buf .exit)) (r .out .len)) (r .at) ⌝ }
+pub fn write_pred(s: &[u8], at: usize, levels: usize, enc: &[u16], buf: &mut [u8], out: Out) -> Sent
+    requires { ⌜ Chained (now s) (now enc) ⌝ }
+    ensures { λ r. ⌜ Sends (write-pred (encoderIn (now (s .entry)) (now (enc .entry)))) (decPred levels (now (s .entry)) at) (output (now (buf .entry)) (out .len)) (output (now (buf .exit)) (r .out .len)) (r .at) ⌝ }
 {
     if levels == 0 {
         return Sent { at, out };
@@ -72,15 +67,16 @@ pub fn write_pred(
     let below = levels - 1;
     let node = task::read_pred_node(s, at);
     match node {
-        PredNode::KVar(x, n, p) => write_kvar(s, x, n, p, below, types, buf, out),
-        PredNode::Expr(p) => smt_expr::write_expr(s, p, below, types, buf, out),
+        PredNode::KVar(x, n, p) => write_kvar(s, x, n, p, below, enc, buf, out),
+        PredNode::Expr(p) => smt_expr::write_expr(s, p, below, enc, buf, out),
         PredNode::Refused => Sent { at, out },
     }
 }
 
 // A constructor with its fields.
-fn write_ctor(s: &[u8], at: usize, types: Datatypes, buf: &mut [u8], out: Out) -> Sent
-    ensures { λ r. ⌜ Sends (write-ctor (encoderIn (now (s .entry)) types)) (dataCtor (now (s .entry)) at) (output (now (buf .entry)) (out .len)) (output (now (buf .exit)) (r .out .len)) (r .at) ⌝ }
+fn write_ctor(s: &[u8], at: usize, enc: &[u16], buf: &mut [u8], out: Out) -> Sent
+    requires { ⌜ Chained (now s) (now enc) ⌝ }
+    ensures { λ r. ⌜ Sends (write-ctor (encoderIn (now (s .entry)) (now (enc .entry)))) (dataCtor (now (s .entry)) at) (output (now (buf .entry)) (out .len)) (output (now (buf .exit)) (r .out .len)) (r .at) ⌝ }
 {
     let read = task::read_name(s, at);
     let SpanRead::At(x, p) = read else {
@@ -92,7 +88,7 @@ fn write_ctor(s: &[u8], at: usize, types: Datatypes, buf: &mut [u8], out: Out) -
     };
     let opened = out.byte(buf, b'(');
     let named = opened.name(buf, s, x);
-    let fields = smt_sort::write_binders(s, q, n, 256, types, buf, named);
+    let fields = smt_sort::write_binders(s, q, n, 256, enc, buf, named);
     let sent = fields.out;
     let closed = sent.byte(buf, b')');
     Sent {
@@ -102,15 +98,16 @@ fn write_ctor(s: &[u8], at: usize, types: Datatypes, buf: &mut [u8], out: Out) -
 }
 
 // Sends n constructors, a space before each.
-fn write_ctors(s: &[u8], at: usize, n: u64, types: Datatypes, buf: &mut [u8], out: Out) -> Sent
-    ensures { λ r. ⌜ Sends (ctorsText (encoderIn (now (s .entry)) types)) (many [] _∷_ dataCtor n (now (s .entry)) at) (output (now (buf .entry)) (out .len)) (output (now (buf .exit)) (r .out .len)) (r .at) ⌝ }
+fn write_ctors(s: &[u8], at: usize, n: u64, enc: &[u16], buf: &mut [u8], out: Out) -> Sent
+    requires { ⌜ Chained (now s) (now enc) ⌝ }
+    ensures { λ r. ⌜ Sends (ctorsText (encoderIn (now (s .entry)) (now (enc .entry)))) (many [] _∷_ dataCtor n (now (s .entry)) at) (output (now (buf .entry)) (out .len)) (output (now (buf .exit)) (r .out .len)) (r .at) ⌝ }
 {
     let mut p = at;
     let mut left = n;
     let mut sent = out;
     while 0 < left {
         let spaced = sent.byte(buf, b' ');
-        let one = write_ctor(s, p, types, buf, spaced);
+        let one = write_ctor(s, p, enc, buf, spaced);
         p = one.at;
         sent = one.out;
         left -= 1;
@@ -119,23 +116,17 @@ fn write_ctors(s: &[u8], at: usize, n: u64, types: Datatypes, buf: &mut [u8], ou
 }
 
 // Sends n constructors in parentheses.
-fn write_datatype_ctors(
-    s: &[u8],
-    at: usize,
-    n: u64,
-    types: Datatypes,
-    buf: &mut [u8],
-    out: Out,
-) -> Sent
-    ensures { λ r. ⌜ Sends (ctorList (encoderIn (now (s .entry)) types)) (many [] _∷_ dataCtor n (now (s .entry)) at) (output (now (buf .entry)) (out .len)) (output (now (buf .exit)) (r .out .len)) (r .at) ⌝ }
+fn write_datatype_ctors(s: &[u8], at: usize, n: u64, enc: &[u16], buf: &mut [u8], out: Out) -> Sent
+    requires { ⌜ Chained (now s) (now enc) ⌝ }
+    ensures { λ r. ⌜ Sends (ctorList (encoderIn (now (s .entry)) (now (enc .entry)))) (many [] _∷_ dataCtor n (now (s .entry)) at) (output (now (buf .entry)) (out .len)) (output (now (buf .exit)) (r .out .len)) (r .at) ⌝ }
 {
     if n == 0 {
         return smt_word::write_word(b"()", at, buf, out);
     }
     let opened = out.byte(buf, b'(');
-    let first = write_ctor(s, at, types, buf, opened);
+    let first = write_ctor(s, at, enc, buf, opened);
     let made = first.out;
-    let rest = write_ctors(s, first.at, n - 1, types, buf, made);
+    let rest = write_ctors(s, first.at, n - 1, enc, buf, made);
     let sent = rest.out;
     let closed = sent.byte(buf, b')');
     Sent {
@@ -168,19 +159,20 @@ fn write_datatype_body(
     vars: u64,
     n: u64,
     at: usize,
-    types: Datatypes,
+    enc: &[u16],
     buf: &mut [u8],
     out: Out,
 ) -> Sent
-    ensures { λ r. ⌜ Sends (bodyText (encoderIn (now (s .entry)) types) vars) (many [] _∷_ dataCtor n (now (s .entry)) at) (output (now (buf .entry)) (out .len)) (output (now (buf .exit)) (r .out .len)) (r .at) ⌝ }
+    requires { ⌜ Chained (now s) (now enc) ⌝ }
+    ensures { λ r. ⌜ Sends (bodyText (encoderIn (now (s .entry)) (now (enc .entry))) vars) (many [] _∷_ dataCtor n (now (s .entry)) at) (output (now (buf .entry)) (out .len)) (output (now (buf .exit)) (r .out .len)) (r .at) ⌝ }
 {
     if vars == 0 {
-        return write_datatype_ctors(s, at, n, types, buf, out);
+        return write_datatype_ctors(s, at, n, enc, buf, out);
     }
     let opened = out.bytes(buf, b"(par ");
     let listed = write_parameters(vars, buf, opened);
     let spaced = listed.byte(buf, b' ');
-    let ctors = write_datatype_ctors(s, at, n, types, buf, spaced);
+    let ctors = write_datatype_ctors(s, at, n, enc, buf, spaced);
     let sent = ctors.out;
     let closed = sent.byte(buf, b')');
     Sent {
@@ -201,8 +193,9 @@ fn open_datatype(s: &[u8], x: Span, vars: u64, buf: &mut [u8], out: Out) -> Out
 }
 
 // Sends the declaration of the datatype at a position.
-pub fn write_datatype_decl(s: &[u8], at: usize, types: Datatypes, buf: &mut [u8], out: Out) -> Sent
-    ensures { λ r. ⌜ Sends (write-datatype-decl (encoderIn (now (s .entry)) types)) (datatype (now (s .entry)) at) (output (now (buf .entry)) (out .len)) (output (now (buf .exit)) (r .out .len)) (r .at) ⌝ }
+pub fn write_datatype_decl(s: &[u8], at: usize, enc: &[u16], buf: &mut [u8], out: Out) -> Sent
+    requires { ⌜ Chained (now s) (now enc) ⌝ }
+    ensures { λ r. ⌜ Sends (write-datatype-decl (encoderIn (now (s .entry)) (now (enc .entry)))) (datatype (now (s .entry)) at) (output (now (buf .entry)) (out .len)) (output (now (buf .exit)) (r .out .len)) (r .at) ⌝ }
 {
     let read = task::read_name(s, at);
     let SpanRead::At(x, p) = read else {
@@ -217,7 +210,7 @@ pub fn write_datatype_decl(s: &[u8], at: usize, types: Datatypes, buf: &mut [u8]
         return Sent { at, out };
     };
     let opened = open_datatype(s, x, vars, buf, out);
-    let ctors = write_datatype_body(s, vars, n, t, types, buf, opened);
+    let ctors = write_datatype_body(s, vars, n, t, enc, buf, opened);
     let sent = ctors.out;
     let closed = sent.bytes(buf, b"))\n");
     Sent {
@@ -227,8 +220,9 @@ pub fn write_datatype_decl(s: &[u8], at: usize, types: Datatypes, buf: &mut [u8]
 }
 
 // Sends the declaration of the constant at a position.
-pub fn write_const_decl(s: &[u8], at: usize, types: Datatypes, buf: &mut [u8], out: Out) -> Sent
-    ensures { λ r. ⌜ Sends (write-const-decl (encoderIn (now (s .entry)) types)) (constant (now (s .entry)) at) (output (now (buf .entry)) (out .len)) (output (now (buf .exit)) (r .out .len)) (r .at) ⌝ }
+pub fn write_const_decl(s: &[u8], at: usize, enc: &[u16], buf: &mut [u8], out: Out) -> Sent
+    requires { ⌜ Chained (now s) (now enc) ⌝ }
+    ensures { λ r. ⌜ Sends (write-const-decl (encoderIn (now (s .entry)) (now (enc .entry)))) (constant (now (s .entry)) at) (output (now (buf .entry)) (out .len)) (output (now (buf .exit)) (r .out .len)) (r .at) ⌝ }
 {
     let read = task::read_name(s, at);
     let SpanRead::At(x, p) = read else {
@@ -237,7 +231,7 @@ pub fn write_const_decl(s: &[u8], at: usize, types: Datatypes, buf: &mut [u8], o
     let opened = out.bytes(buf, b"(declare-const ");
     let named = opened.name(buf, s, x);
     let spaced = named.byte(buf, b' ');
-    let sort = smt_sort::write_sort(s, p, 256, types, buf, spaced);
+    let sort = smt_sort::write_sort(s, p, 256, enc, buf, spaced);
     let sent = sort.out;
     let closed = sent.bytes(buf, b")\n");
     Sent {
@@ -252,16 +246,17 @@ fn open_signature(
     x: Span,
     n: u64,
     at: usize,
-    types: Datatypes,
+    enc: &[u16],
     buf: &mut [u8],
     out: Out,
 ) -> Sent
-    ensures { λ r. ⌜ Sends (openingText (encoderIn (now (s .entry)) types) (bytesOf (now (s .entry)) x)) (many Sorts.none Sorts.more (decSort deepest) n (now (s .entry)) at) (output (now (buf .entry)) (out .len)) (output (now (buf .exit)) (r .out .len)) (r .at) ⌝ }
+    requires { ⌜ Chained (now s) (now enc) ⌝ }
+    ensures { λ r. ⌜ Sends (openingText (encoderIn (now (s .entry)) (now (enc .entry))) (bytesOf (now (s .entry)) x)) (many Sorts.none Sorts.more (decSort deepest) n (now (s .entry)) at) (output (now (buf .entry)) (out .len)) (output (now (buf .exit)) (r .out .len)) (r .at) ⌝ }
 {
     let opened = out.bytes(buf, b"(declare-fun ");
     let named = opened.name(buf, s, x);
     let spaced = named.byte(buf, b' ');
-    let sorts = smt_sort::write_sort_list(s, at, n, 256, types, buf, spaced);
+    let sorts = smt_sort::write_sort_list(s, at, n, 256, enc, buf, spaced);
     let listed = sorts.out;
     let sent = listed.byte(buf, b' ');
     Sent {
@@ -277,29 +272,24 @@ fn write_fun_signature(
     n: u64,
     at: usize,
     from: usize,
-    types: Datatypes,
+    enc: &[u16],
     buf: &mut [u8],
     out: Out,
 ) -> Out
-    ensures { λ r. ⌜ SignatureSends (encoderIn (now (s .entry)) types) (bytesOf (now (s .entry)) x) (many Sorts.none Sorts.more (decSort deepest) n (now (s .entry)) at) (decSort deepest (now (s .entry)) from) (output (now (buf .entry)) (out .len)) (output (now (buf .exit)) (r .len)) ⌝ }
+    requires { ⌜ Chained (now s) (now enc) ⌝ }
+    ensures { λ r. ⌜ SignatureSends (encoderIn (now (s .entry)) (now (enc .entry))) (bytesOf (now (s .entry)) x) (many Sorts.none Sorts.more (decSort deepest) n (now (s .entry)) at) (decSort deepest (now (s .entry)) from) (output (now (buf .entry)) (out .len)) (output (now (buf .exit)) (r .len)) ⌝ }
 {
-    let opening = open_signature(s, x, n, at, types, buf, out);
+    let opening = open_signature(s, x, n, at, enc, buf, out);
     let opened = opening.out;
-    let sort = smt_sort::write_sort(s, from, 256, types, buf, opened);
+    let sort = smt_sort::write_sort(s, from, 256, enc, buf, opened);
     let sent = sort.out;
     sent.bytes(buf, b")\n")
 }
 
 // Sends the name at a position with the sort at another.
-fn write_arg(
-    s: &[u8],
-    at: usize,
-    from: usize,
-    types: Datatypes,
-    buf: &mut [u8],
-    out: Out,
-) -> Argument
-    ensures { λ r. ⌜ ArgSends (encoderIn (now (s .entry)) types) (name (now (s .entry)) at) (decSort deepest (now (s .entry)) from) (output (now (buf .entry)) (out .len)) (output (now (buf .exit)) (r .out .len)) (r .at) (r .from) ⌝ }
+fn write_arg(s: &[u8], at: usize, from: usize, enc: &[u16], buf: &mut [u8], out: Out) -> Argument
+    requires { ⌜ Chained (now s) (now enc) ⌝ }
+    ensures { λ r. ⌜ ArgSends (encoderIn (now (s .entry)) (now (enc .entry))) (name (now (s .entry)) at) (decSort deepest (now (s .entry)) from) (output (now (buf .entry)) (out .len)) (output (now (buf .exit)) (r .out .len)) (r .at) (r .from) ⌝ }
 {
     let read = task::read_name(s, at);
     let SpanRead::At(x, p) = read else {
@@ -308,7 +298,7 @@ fn write_arg(
     let opened = out.byte(buf, b'(');
     let named = opened.name(buf, s, x);
     let spaced = named.byte(buf, b' ');
-    let sort = smt_sort::write_sort(s, from, 256, types, buf, spaced);
+    let sort = smt_sort::write_sort(s, from, 256, enc, buf, spaced);
     let sent = sort.out;
     let closed = sent.byte(buf, b')');
     Argument {
@@ -325,11 +315,12 @@ fn write_args(
     m: u64,
     from: usize,
     n: u64,
-    types: Datatypes,
+    enc: &[u16],
     buf: &mut [u8],
     out: Out,
 ) -> Out
-    ensures { λ r. ⌜ ZipSends spaced (encoderIn (now (s .entry)) types) (many [] _∷_ name m (now (s .entry)) at) (many Sorts.none Sorts.more (decSort deepest) n (now (s .entry)) from) (output (now (buf .entry)) (out .len)) (output (now (buf .exit)) (r .len)) ⌝ }
+    requires { ⌜ Chained (now s) (now enc) ⌝ }
+    ensures { λ r. ⌜ ZipSends spaced (encoderIn (now (s .entry)) (now (enc .entry))) (many [] _∷_ name m (now (s .entry)) at) (many Sorts.none Sorts.more (decSort deepest) n (now (s .entry)) from) (output (now (buf .entry)) (out .len)) (output (now (buf .exit)) (r .len)) ⌝ }
 {
     let mut p = at;
     let mut q = from;
@@ -338,7 +329,7 @@ fn write_args(
     let mut sent = out;
     while 0 < names && 0 < sorts {
         let spaced = sent.byte(buf, b' ');
-        let one = write_arg(s, p, q, types, buf, spaced);
+        let one = write_arg(s, p, q, enc, buf, spaced);
         p = one.at;
         q = one.from;
         sent = one.out;
@@ -355,11 +346,12 @@ fn write_arg_list(
     m: u64,
     from: usize,
     n: u64,
-    types: Datatypes,
+    enc: &[u16],
     buf: &mut [u8],
     out: Out,
 ) -> Out
-    ensures { λ r. ⌜ ZipSends sexp-list (encoderIn (now (s .entry)) types) (many [] _∷_ name m (now (s .entry)) at) (many Sorts.none Sorts.more (decSort deepest) n (now (s .entry)) from) (output (now (buf .entry)) (out .len)) (output (now (buf .exit)) (r .len)) ⌝ }
+    requires { ⌜ Chained (now s) (now enc) ⌝ }
+    ensures { λ r. ⌜ ZipSends sexp-list (encoderIn (now (s .entry)) (now (enc .entry))) (many [] _∷_ name m (now (s .entry)) at) (many Sorts.none Sorts.more (decSort deepest) n (now (s .entry)) from) (output (now (buf .entry)) (out .len)) (output (now (buf .exit)) (r .len)) ⌝ }
 {
     if m == 0 {
         return out.bytes(buf, b"()");
@@ -368,9 +360,9 @@ fn write_arg_list(
         return out.bytes(buf, b"()");
     }
     let opened = out.byte(buf, b'(');
-    let first = write_arg(s, at, from, types, buf, opened);
+    let first = write_arg(s, at, from, enc, buf, opened);
     let named = first.out;
-    let rest = write_args(s, first.at, m - 1, first.from, n - 1, types, buf, named);
+    let rest = write_args(s, first.at, m - 1, first.from, n - 1, enc, buf, named);
     rest.byte(buf, b')')
 }
 
@@ -382,11 +374,12 @@ fn write_definition(
     at: usize,
     from: usize,
     inner: usize,
-    types: Datatypes,
+    enc: &[u16],
     buf: &mut [u8],
     out: Out,
 ) -> Sent
-    ensures { λ r. ⌜ BodySends (encoderIn (now (s .entry)) types) (bytesOf (now (s .entry)) x) (many Sorts.none Sorts.more (decSort deepest) n (now (s .entry)) at) (decSort deepest (now (s .entry)) from) (body true (now (s .entry)) inner) (output (now (buf .entry)) (out .len)) (output (now (buf .exit)) (r .out .len)) (r .at) ⌝ }
+    requires { ⌜ Chained (now s) (now enc) ⌝ }
+    ensures { λ r. ⌜ BodySends (encoderIn (now (s .entry)) (now (enc .entry))) (bytesOf (now (s .entry)) x) (many Sorts.none Sorts.more (decSort deepest) n (now (s .entry)) at) (decSort deepest (now (s .entry)) from) (body true (now (s .entry)) inner) (output (now (buf .entry)) (out .len)) (output (now (buf .exit)) (r .out .len)) (r .at) ⌝ }
 {
     let count = task::number_at(s, inner, 2);
     let Number::Value(m, p) = count else {
@@ -399,26 +392,20 @@ fn write_definition(
     let opened = out.bytes(buf, b"(define-fun ");
     let named = opened.name(buf, s, x);
     let spaced = named.byte(buf, b' ');
-    let listed = write_arg_list(s, p, m, at, n, types, buf, spaced);
-    write_defined(s, from, q, types, buf, listed)
+    let listed = write_arg_list(s, p, m, at, n, enc, buf, spaced);
+    write_defined(s, from, q, enc, buf, listed)
 }
 
 // Sends a function's own sort and its body's expression, and closes the definition.
-fn write_defined(
-    s: &[u8],
-    from: usize,
-    at: usize,
-    types: Datatypes,
-    buf: &mut [u8],
-    out: Out,
-) -> Sent
-    ensures { λ r. ⌜ DefinedSends (encoderIn (now (s .entry)) types) (decSort deepest (now (s .entry)) from) (decExpr deepest (now (s .entry)) at) (output (now (buf .entry)) (out .len)) (output (now (buf .exit)) (r .out .len)) (r .at) ⌝ }
+fn write_defined(s: &[u8], from: usize, at: usize, enc: &[u16], buf: &mut [u8], out: Out) -> Sent
+    requires { ⌜ Chained (now s) (now enc) ⌝ }
+    ensures { λ r. ⌜ DefinedSends (encoderIn (now (s .entry)) (now (enc .entry))) (decSort deepest (now (s .entry)) from) (decExpr deepest (now (s .entry)) at) (output (now (buf .entry)) (out .len)) (output (now (buf .exit)) (r .out .len)) (r .at) ⌝ }
 {
     let spaced = out.byte(buf, b' ');
-    let sort = smt_sort::write_sort(s, from, 256, types, buf, spaced);
+    let sort = smt_sort::write_sort(s, from, 256, enc, buf, spaced);
     let sorted = sort.out;
     let parted = sorted.byte(buf, b' ');
-    let expr = smt_expr::write_expr(s, at, 256, types, buf, parted);
+    let expr = smt_expr::write_expr(s, at, 256, enc, buf, parted);
     let sent = expr.out;
     let closed = sent.bytes(buf, b")\n");
     Sent {
@@ -433,11 +420,12 @@ fn write_function(
     x: Span,
     n: u64,
     at: usize,
-    types: Datatypes,
+    enc: &[u16],
     buf: &mut [u8],
     out: Out,
 ) -> Sent
-    ensures { λ r. ⌜ Sends (write-fun-def (encoderIn (now (s .entry)) types)) (signed (bytesOf (now (s .entry)) x) 0 n (now (s .entry)) at) (output (now (buf .entry)) (out .len)) (output (now (buf .exit)) (r .out .len)) (r .at) ⌝ }
+    requires { ⌜ Chained (now s) (now enc) ⌝ }
+    ensures { λ r. ⌜ Sends (write-fun-def (encoderIn (now (s .entry)) (now (enc .entry)))) (signed (bytesOf (now (s .entry)) x) 0 n (now (s .entry)) at) (output (now (buf .entry)) (out .len)) (output (now (buf .exit)) (r .out .len)) (r .at) ⌝ }
 {
     let inputs = task_check::check_sorts(s, at, n, 256);
     let Walked::Next(from, _) = inputs else {
@@ -452,15 +440,16 @@ fn write_function(
         return Sent { at, out };
     };
     if has {
-        return write_definition(s, x, n, at, from, q, types, buf, out);
+        return write_definition(s, x, n, at, from, q, enc, buf, out);
     }
-    let sent = write_fun_signature(s, x, n, at, from, types, buf, out);
+    let sent = write_fun_signature(s, x, n, at, from, enc, buf, out);
     Sent { at: q, out: sent }
 }
 
 // Sends the declaration of the function at a position.
-pub fn write_fun_def(s: &[u8], at: usize, types: Datatypes, buf: &mut [u8], out: Out) -> Sent
-    ensures { λ r. ⌜ Sends (write-fun-def (encoderIn (now (s .entry)) types)) (function (now (s .entry)) at) (output (now (buf .entry)) (out .len)) (output (now (buf .exit)) (r .out .len)) (r .at) ⌝ }
+pub fn write_fun_def(s: &[u8], at: usize, enc: &[u16], buf: &mut [u8], out: Out) -> Sent
+    requires { ⌜ Chained (now s) (now enc) ⌝ }
+    ensures { λ r. ⌜ Sends (write-fun-def (encoderIn (now (s .entry)) (now (enc .entry)))) (function (now (s .entry)) at) (output (now (buf .entry)) (out .len)) (output (now (buf .exit)) (r .out .len)) (r .at) ⌝ }
 {
     let read = task::read_name(s, at);
     let SpanRead::At(x, p) = read else {
@@ -474,12 +463,13 @@ pub fn write_fun_def(s: &[u8], at: usize, types: Datatypes, buf: &mut [u8], out:
     let Number::Value(n, t) = count else {
         return Sent { at, out };
     };
-    write_function(s, x, n, t, types, buf, out)
+    write_function(s, x, n, t, enc, buf, out)
 }
 
 // Sends the declaration of the KVar at a position.
-pub fn write_kvar_decl(s: &[u8], at: usize, types: Datatypes, buf: &mut [u8], out: Out) -> Sent
-    ensures { λ r. ⌜ Sends (write-kvar-decl (encoderIn (now (s .entry)) types)) (kvar (now (s .entry)) at) (output (now (buf .entry)) (out .len)) (output (now (buf .exit)) (r .out .len)) (r .at) ⌝ }
+pub fn write_kvar_decl(s: &[u8], at: usize, enc: &[u16], buf: &mut [u8], out: Out) -> Sent
+    requires { ⌜ Chained (now s) (now enc) ⌝ }
+    ensures { λ r. ⌜ Sends (write-kvar-decl (encoderIn (now (s .entry)) (now (enc .entry)))) (kvar (now (s .entry)) at) (output (now (buf .entry)) (out .len)) (output (now (buf .exit)) (r .out .len)) (r .at) ⌝ }
 {
     let read = task::read_name(s, at);
     let SpanRead::At(x, p) = read else {
@@ -489,7 +479,7 @@ pub fn write_kvar_decl(s: &[u8], at: usize, types: Datatypes, buf: &mut [u8], ou
     let Number::Value(n, q) = count else {
         return Sent { at, out };
     };
-    let opening = open_signature(s, x, n, q, types, buf, out);
+    let opening = open_signature(s, x, n, q, enc, buf, out);
     let opened = opening.out;
     let closed = opened.bytes(buf, b"Bool)\n");
     Sent {

@@ -7,18 +7,21 @@ use native.Mathlib.Omega.{arith}
 use mir.Val.{Fits}
 use mir.Syntax.{w8}
 use lib.Dec.{leb, ltb}
-use lib.ListN.{length, getD, length-append}
+use lib.ListN.{length, getD, replicate, length-append, length-replicate}
 use lib.Seq.{sets}
 use borrow.Author.Tests.{le-leb, lt-leb, lt-ltb, le-ltb}
+use mathlib.Core.Logic.{⊎-elim}
 use Rattle.smtlib.proofs.Bools.{clash}
 use Rattle.task.specs.Ast.{Task}
 use Rattle.task.specs.Decode.{Res, got, refuse}
 use Rattle.task.specs.Task.{taskOf, declarations, headsOf}
+use Rattle.task.proofs.Reading.{le-or-lt}
 use Rattle.inspect.specs.declared.Bounds.{Bounds}
 use Rattle.inspect.specs.declared.Inspected.{Inspected}
 use Rattle.inspect.specs.declared.Inspected.the-variants as inspected-is
 use Rattle.inspect.specs.Inspect.{boundsOf, inspectedOf}
 use Rattle.inspect.specs.Walk.{Inside}
+use Rattle.declared.specs.Gather.{Declared}
 use Rattle.horn_text.specs.Clauses.{clausesOf}
 use Rattle.horn_text.specs.Script.{join, partsOf, scriptOf, longest}
 use Rattle.horn_text.specs.Answers.{surveyAnswer, partAnswer, partBuffer, scriptAnswer, scriptBuffer}
@@ -26,7 +29,7 @@ use Rattle.horn_text.specs.Demand.{Bytes, Promised}
 use Rattle.horn_text.proofs.Places.{clauses-number}
 use Rattle.horn_text.proofs.Lengths.{script-short}
 use Rattle.horn_text.proofs.Lines.{parts-few}
-use Rattle.horn_text.proofs.Opened.{Opened, opened}
+use Rattle.task.proofs.Opened.{Opened, opened}
 use Rattle.horn_text.proofs.Demands.{demand3}
 use Rattle.output.specs.Emit.{most}
 use Rattle.flatten.specs.declared.Range.{Range}
@@ -38,6 +41,7 @@ use Rattle.parts.specs.Whole.{fresh, PutsScript, Measured, Accepted}
 use Rattle.smt_horn.specs.declared.Surveyed.the-variants as survey-is
 use Rattle.smt_horn.specs.declared.Written.the-variants as written-is
 use Rattle.smt_horn.specs.Calls.{surveyed, written}
+use Rattle.smt_horn.specs.Putting.{Put, Puts}
 
 -- the elements of a slice of bytes are bytes
 pub are-bytes : (file : List ℕ) → ((i : ℕ) → Fits w8 (getD file i 0)) → Bytes file
@@ -95,6 +99,27 @@ heads-found file v b d h e e' t end u =
     let z : headsOf (t .constraint) ≡ h = cc in
     clauses-number t ∙ z
 
+-- PUTTING PARTS
+
+-- an array has room for no more than its elements
+pub zeros-room : (n m : ℕ) → m ≤ n → m ≤ length {A = ℕ} (replicate n 0)
+zeros-room n m h = let l = length-replicate {A = ℕ} n 0 in omega arith
+
+-- with a table of the declared names the parts are measured, and written if there is room
+module _ (file table : List ℕ) (b : Bounds) (a : Accepted file b) (d : Declared file b table) (r : Range) (p : Progress) (m : Measured file table b r p) where
+  pub put-long : (buf : List ℕ) → length buf < p .len → Puts file r buf buf p
+  unfolding Puts Measured
+  put-long buf h t end e =
+      let x = m t end e (a .bounds) (d .are t end e (a .bounds)) in
+      record { seen = x .0; len = x .1; longest = x .2; fitting = λ l. absurd (omega arith); longer = λ l. refl }
+
+  pub put-done : (buf after : List ℕ) (q : Progress) → p .len ≤ length buf → PutsScript file table b r (fresh buf) (writing q after) → Puts file r buf after p
+  unfolding Puts Measured PutsScript
+  put-done buf after q h u t end e =
+      let n = d .are t end e (a .bounds) in
+      let x = m t end e (a .bounds) n in
+      record { seen = x .0; len = x .1; longest = x .2; fitting = λ l. ap (λ (w : Writing). w .buf) (u t end e (a .bounds) n); longer = λ l. absurd (omega arith) }
+
 -- ALL PARTS, AND ONE
 
 -- a part is no longer than all of them
@@ -114,6 +139,11 @@ counted r w (t ∷ ts) h =
     once : (x : Bool) → cond x (place w t) (pass w) .seen ≡ w .seen + 1
     once true = omega arith
     once false = omega arith
+
+-- none is chosen before the range
+none-chosen : (r : Range) (k : ℕ) (ts : List (List ℕ)) → k + length ts ≤ r .from → chosen r k ts ≡ []
+none-chosen r k [] h = refl
+none-chosen r k (t ∷ ts) h = rw (lt-leb (r .from) k (omega arith)) (none-chosen r (suc k) ts (omega arith))
 
 module _ (file : List ℕ) (b : Bounds) (a : Accepted file b) (by : Bytes file) where
   -- the script and the number of its parts are below the largest number
@@ -139,82 +169,85 @@ module _ (file : List ℕ) (b : Bounds) (a : Accepted file b) (by : Bytes file) 
       let j : join (chosen r 0 (partsOf (a .task))) ≡ getD (partsOf (a .task)) i [] = ap join c ∙ append-nil (getD (partsOf (a .task)) i []) in
       totals r (partsOf (a .task)) buf few (rw j (part-short (partsOf (a .task)) i short)) ∙ rw (j, c)
 
-  -- what was measured of all parts
-  module _ (r : Range) (p : Progress) (m : Measured file b r p) where
+  -- behind the last part there is nothing to write
+  none-put : (r : Range) (buf : List ℕ) → length (partsOf (a .task)) ≤ r .from → puts r (fresh buf) (partsOf (a .task)) .buf ≡ buf
+  none-put r buf h =
+      let c : chosen r 0 (partsOf (a .task)) ≡ [] = none-chosen r 0 (partsOf (a .task)) (omega arith) in
+      ap (λ (w : Writing). w .buf) (totals r (partsOf (a .task)) buf few (rw c (omega arith))) ∙ rw c
+
+  -- what was put of all parts
+  module _ (r : Range) (p : Progress) (buf after : List ℕ) (u : Puts file r buf after p) where
+    m : Put (a .task) r buf after p
+    unfolding Puts
+    m = u (a .task) (a .end) (a .held)
+
     seen-is : p .seen ≡ length (partsOf (a .task))
-    unfolding Measured
-    seen-is = m (a .task) (a .end) (a .held) (a .bounds) .0 ∙ counted r (fresh []) (partsOf (a .task)) (let k = few in omega arith) ∙ omega arith
+    seen-is = m .seen ∙ counted r (fresh []) (partsOf (a .task)) (let k = few in omega arith) ∙ omega arith
 
     module _ (f : (r .from ≡ 0) × (r .to ≡ most)) where
       len-is : p .len ≡ length (scriptOf (a .task))
-      unfolding Measured
-      len-is = m (a .task) (a .end) (a .held) (a .bounds) .1 ∙ ap (λ (w : Writing). w .len) (all-put r [] (f .0) (f .1))
+      len-is = m .len ∙ ap (λ (w : Writing). w .len) (all-put r [] (f .0) (f .1))
 
       longest-is : p .longest ≡ longest (partsOf (a .task))
-      unfolding Measured
-      longest-is = m (a .task) (a .end) (a .held) (a .bounds) .2 ∙ ap (λ (w : Writing). w .longest) (all-put r [] (f .0) (f .1))
+      longest-is = m .longest ∙ ap (λ (w : Writing). w .longest) (all-put r [] (f .0) (f .1))
 
       pub survey-found : (h : ℕ) → length (clausesOf (a .task)) ≡ h → surveyed (survey-is.Sizes (p .seen) h (p .len) (p .longest)) ≡ surveyAnswer file
       unfolding surveyAnswer
       survey-found h e = rw (a .held, seen-is, len-is, longest-is, ← e)
 
       -- a script that is longer than the buffer
-      pub script-long : (buf : List ℕ) → length buf < p .len → (written (written-is.Refused 9) ≡ scriptAnswer file (length buf)) × (buf ≡ scriptBuffer file buf)
+      pub script-long : length buf < p .len → (written (written-is.Refused 9) ≡ scriptAnswer file (length buf)) × (after ≡ scriptBuffer file buf)
       unfolding scriptAnswer scriptBuffer
-      script-long buf h =
+      script-long h =
           let l = len-is in
           let no : leb (length (scriptOf (a .task))) (length buf) ≡ false = lt-leb (length (scriptOf (a .task))) (length buf) (omega arith) in
-          (rw (a .held, no), rw (a .held, no))
+          (rw (a .held, no), rw (a .held, no) (m .longer h))
 
       -- one that is not
-      pub script-done : (buf after : List ℕ) (q : Progress) → p .len ≤ length buf → PutsScript file b r (fresh buf) (writing q after)
-          → (written (written-is.Length (q .len)) ≡ scriptAnswer file (length buf)) × (after ≡ scriptBuffer file buf)
-      unfolding scriptAnswer scriptBuffer PutsScript
-      script-done buf after q h u =
+      pub script-done : p .len ≤ length buf → (written (written-is.Length (p .len)) ≡ scriptAnswer file (length buf)) × (after ≡ scriptBuffer file buf)
+      unfolding scriptAnswer scriptBuffer
+      script-done h =
           let l = len-is in
           let fits : leb (length (scriptOf (a .task))) (length buf) ≡ true = le-leb (length (scriptOf (a .task))) (length buf) (omega arith) in
-          let w = u (a .task) (a .end) (a .held) (a .bounds) ∙ all-put r buf (f .0) (f .1) in
-          let n : q .len ≡ length (scriptOf (a .task)) = ap (λ (x : Writing). x .len) w in
-          (rw (a .held, fits, n), rw (a .held, fits) (ap (λ (x : Writing). x .buf) w ∙ sets-laid (scriptOf (a .task)) buf (omega arith)))
+          let w = m .fitting h ∙ ap (λ (x : Writing). x .buf) (all-put r buf (f .0) (f .1)) in
+          (rw (a .held, fits, l), rw (a .held, fits) (w ∙ sets-laid (scriptOf (a .task)) buf (omega arith)))
 
     module _ (i : ℕ) where
       -- there is no such part
-      pub part-none : (buf : List ℕ) → p .seen ≤ i → (written (written-is.Refused 8) ≡ partAnswer file i (length buf)) × (buf ≡ partBuffer file i buf)
+      pub part-none : (r .from ≡ i) × (r .to ≡ up i 1) → p .seen ≤ i → (written (written-is.Refused 8) ≡ partAnswer file i (length buf)) × (after ≡ partBuffer file i buf)
       unfolding partAnswer partBuffer
-      part-none buf h =
+      part-none f h =
           let n = seen-is in
+          let w = ⊎-elim (λ (l : p .len ≤ length buf). m .fitting l ∙ none-put r buf (omega (arith, f .0))) (λ (l : length buf < p .len). m .longer l) (le-or-lt (p .len) (length buf)) in
           let no : ltb i (length (partsOf (a .task))) ≡ false = le-ltb i (length (partsOf (a .task))) (omega arith) in
-          (rw (a .held, no), rw (a .held, no))
+          (rw (a .held, no), rw (a .held, no) w)
 
       module _ (f : (r .from ≡ i) × (r .to ≡ up i 1)) (g : i < p .seen) where
         there : i < length (partsOf (a .task))
         there = let n = seen-is in omega arith
 
         part-len : p .len ≡ length (getD (partsOf (a .task)) i [])
-        unfolding Measured
-        part-len = m (a .task) (a .end) (a .held) (a .bounds) .1 ∙ ap (λ (w : Writing). w .len) (one-put r i [] (f .0) (f .1) there)
+        part-len = m .len ∙ ap (λ (w : Writing). w .len) (one-put r i [] (f .0) (f .1) there)
 
         found : ltb i (length (partsOf (a .task))) ≡ true
         found = lt-ltb i (length (partsOf (a .task))) there
 
         -- it is longer than the buffer
-        pub part-long : (buf : List ℕ) → length buf < p .len → (written (written-is.Refused 9) ≡ partAnswer file i (length buf)) × (buf ≡ partBuffer file i buf)
+        pub part-long : length buf < p .len → (written (written-is.Refused 9) ≡ partAnswer file i (length buf)) × (after ≡ partBuffer file i buf)
         unfolding partAnswer partBuffer
-        part-long buf h =
+        part-long h =
             let l = part-len in
             let no : leb (length (getD (partsOf (a .task)) i [])) (length buf) ≡ false = lt-leb (length (getD (partsOf (a .task)) i [])) (length buf) (omega arith) in
-            (rw (a .held, found, no), rw (a .held, found, no))
+            (rw (a .held, found, no), rw (a .held, found, no) (m .longer h))
 
         -- it is not
-        pub part-done : (buf after : List ℕ) (q : Progress) → p .len ≤ length buf → PutsScript file b r (fresh buf) (writing q after)
-            → (written (written-is.Length (q .len)) ≡ partAnswer file i (length buf)) × (after ≡ partBuffer file i buf)
-        unfolding partAnswer partBuffer PutsScript
-        part-done buf after q h u =
+        pub part-done : p .len ≤ length buf → (written (written-is.Length (p .len)) ≡ partAnswer file i (length buf)) × (after ≡ partBuffer file i buf)
+        unfolding partAnswer partBuffer
+        part-done h =
             let l = part-len in
             let fits : leb (length (getD (partsOf (a .task)) i [])) (length buf) ≡ true = le-leb (length (getD (partsOf (a .task)) i [])) (length buf) (omega arith) in
-            let w = u (a .task) (a .end) (a .held) (a .bounds) ∙ one-put r i buf (f .0) (f .1) there in
-            let n : q .len ≡ length (getD (partsOf (a .task)) i []) = ap (λ (x : Writing). x .len) w in
-            (rw (a .held, found, fits, n), rw (a .held, found, fits) (ap (λ (x : Writing). x .buf) w ∙ sets-laid (getD (partsOf (a .task)) i []) buf (omega arith)))
+            let w = m .fitting h ∙ ap (λ (x : Writing). x .buf) (one-put r i buf (f .0) (f .1) there) in
+            (rw (a .held, found, fits, l), rw (a .held, found, fits) (w ∙ sets-laid (getD (partsOf (a .task)) i []) buf (omega arith)))
 
 -- REFUSALS
 

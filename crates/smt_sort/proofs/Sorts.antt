@@ -4,7 +4,6 @@ use mathlib.Core.Bool.{Bool, true, false, not, cond}
 use mathlib.Core.List.{List, [], _∷_}
 use Prim.Native.Nat.{ℕ, zero, suc, _-_}
 use native.Mathlib.Numerals.{sub-one}
-use lib.ListN.{take}
 use Rattle.smtlib.specs.Lexicon.{bytes, isOne}
 use Rattle.task.specs.declared.Fault.{Fault}
 use Rattle.task.specs.declared.Span.{Span}
@@ -13,24 +12,27 @@ use Rattle.task.specs.declared.SpanRead.the-variants as span-is
 use Rattle.task.specs.declared.SortNode.{SortNode}
 use Rattle.task.specs.declared.SortNode.the-variants as sort-node
 use Rattle.task.specs.Ast.{SortCtor, Sort, Sorts}
-use Rattle.task.specs.Decode.{got, bind, many, name, binder, datatype, decSort}
+use Rattle.task.specs.Decode.{got, bind, many, name, binder, decSort}
 use Rattle.task.specs.Fault.{sortsFault}
 use Rattle.task.specs.Node.{bytesOf, spanOf, sortOf, SortAt}
 use Rattle.task_check.specs.declared.Walked.{Walked}
 use Rattle.task_check.specs.declared.Walked.the-variants as walked-is
 use Rattle.task_check.specs.Walk.{walked}
 use Rattle.task_check.proofs.Rows.{next-is, refused-is}
-use Rattle.task.specs.Task.{declaredBy}
-use Rattle.item_check.specs.Search.{datatypesIn}
-use Rattle.item_check.proofs.Searches.{meets-all}
-use Rattle.smt_text.specs.Encoder.{Encoder, encoder, isOpaque}
+use Rattle.names.specs.declared.Kind.{Kind}
+use Rattle.names.specs.declared.Kind.the-variants.{Datatype}
+use Rattle.names.specs.declared.Found.{Found}
+use Rattle.names.specs.declared.Found.the-variants as found-is
+use Rattle.names.specs.Table.{numberOf, entries, lastOf, fits, namesOf}
+use Rattle.names.specs.Theorems.{isFound}
+use Rattle.names.proofs.Theorems.{members}
+use Rattle.smt_text.specs.Encoder.{Encoder, isOpaque}
 use Rattle.smt_text.specs.Text.{applied, write-name, write-sort-ctor, write-sort, write-sorts, write-binder, write-binders}
 use Rattle.output.specs.Emit.{Output, emit, emits, Sends}
 use Rattle.output.proofs.Sent.{emits-append}
 use Rattle.output.proofs.Sending.{sends-refused, sends-end, sends-then, sends-map, Row}
-use Rattle.smt_sort.specs.declared.Datatypes.{Datatypes}
 use Rattle.smt_sort.specs.declared.SortCtor as code
-use Rattle.smt_sort.specs.Section.{declaredIn, encoderIn, EncoderIs, ctorOf, appliedText}
+use Rattle.smt_sort.specs.Section.{declaredIn, encoderIn, ctorOf, appliedText}
 
 pub sorts-row : (enc : Encoder) → Row Sorts.none Sorts.more (write-sort enc) (write-sorts enc)
 unfolding write-sort write-sorts
@@ -39,16 +41,17 @@ sorts-row enc = record { none = refl; step = λ b bs. refl }
 pub binders-row : (enc : Encoder) → Row [] _∷_ (write-binder enc) (write-binders enc)
 binders-row enc = record { none = refl; step = λ b bs. refl }
 
--- the names that the datatype section declares
-pub declared-is : (s : List ℕ) (d : Datatypes) (x : Span) (ctors c : Bool) (section word : List ℕ) (r : Bool) → ctors ≡ c → section ≡ take (d .end) s → word ≡ bytesOf s x
-    → r ≡ isOne word (declaredBy c (datatypesIn section (d .at))) → r ≡ isOne (bytesOf s x) (declaredIn s d ctors)
-unfolding declaredIn
-declared-is s d x ctors c section word r e e1 e2 e3 = e3 ∙ rw (e1, e2, e)
+-- a search finds the declared names of its kind
+module _ (s enc : List ℕ) (x : Span) (kind : Kind) (word : List ℕ) (f : Found) (w : word ≡ bytesOf s x) (e : f ≡ lastOf (fits word (numberOf kind) (numberOf kind)) (entries s enc)) where
+  declared-is : isFound f ≡ isOne (bytesOf s x) (declaredIn s enc kind)
+  unfolding declaredIn
+  declared-is = ap isFound e ∙ members word (numberOf kind) (entries s enc) ∙ ap (λ (v : List ℕ). isOne v (namesOf (numberOf kind) (entries s enc))) w
 
--- in a section that decodes they are those of its datatypes
-pub encoder-is : EncoderIs
-unfolding encoderIn
-encoder-is s d ds q e = ap encoder (meets-all .meets datatype (take (d .end) s) (d .at) ds q e)
+  pub is-there : (k : ℕ) → f ≡ found-is.Entry k → true ≡ isOne (bytesOf s x) (declaredIn s enc kind)
+  is-there k u = sym (ap isFound u) ∙ declared-is
+
+  pub is-not-there : f ≡ found-is.Nothing → false ≡ isOne (bytesOf s x) (declaredIn s enc kind)
+  is-not-there u = sym (ap isFound u) ∙ declared-is
 
 -- what an applied sort is made by, told in another way
 pub ctor-is : (s : List ℕ) (c c' : code.SortCtor) (o o' : Output) → c ≡ c' → o' ≡ emits o (write-sort-ctor (ctorOf s c')) → o' ≡ emits o (write-sort-ctor (ctorOf s c))
@@ -113,33 +116,33 @@ module _ (enc : Encoder) (s : List ℕ) (l p : ℕ) (o : Output) where
       sends-end (write-sort enc) o o' r (Sort.app c bs) r refl (v ∙ ap (emits o) (sym (app-text c false h bs)))))
 
 -- a datatype that is declared, and one that is not
-module _ (s : List ℕ) (types : Datatypes) (l : ℕ) (x : Span) (n p : ℕ) (o : Output) (t : Bool) (e : t ≡ isOne (bytesOf s x) (declaredIn s types false)) where
-  opaque-is : isOpaque (encoderIn s types) (SortCtor.named (bytesOf s x)) ≡ not t
+module _ (s enc : List ℕ) (l : ℕ) (x : Span) (n p : ℕ) (o : Output) (t : Bool) (e : t ≡ isOne (bytesOf s x) (declaredIn s enc Datatype)) where
+  opaque-is : isOpaque (encoderIn s enc) (SortCtor.named (bytesOf s x)) ≡ not t
   unfolding encoderIn declaredIn
   opaque-is = ap not (sym e)
 
   pub data-sends : (o' : Output) (r : ℕ) → t ≡ true
-      → Sends (appliedText (encoderIn s types) (SortCtor.named (bytesOf s x))) (many Sorts.none Sorts.more (decSort l) n s p) o o' r
-      → Sends (write-sort (encoderIn s types)) (sortOf s (decSort l) (sort-node.Data x n p)) o o' r
+      → Sends (appliedText (encoderIn s enc) (SortCtor.named (bytesOf s x))) (many Sorts.none Sorts.more (decSort l) n s p) o o' r
+      → Sends (write-sort (encoderIn s enc)) (sortOf s (decSort l) (sort-node.Data x n p)) o o' r
   unfolding sortOf
   data-sends o' r u w =
-      made-sends (encoderIn s types) s l p o (SortCtor.named (bytesOf s x)) (sort-node.Data x n p) n o' r (opaque-is ∙ ap not u) refl w
+      made-sends (encoderIn s enc) s l p o (SortCtor.named (bytesOf s x)) (sort-node.Data x n p) n o' r (opaque-is ∙ ap not u) refl w
 
   pub opaque-sends : (v : Walked) (q : ℕ) (f : Fault) (o' : Output) (r : ℕ) → t ≡ false
       → v ≡ walked sortsFault (many Sorts.none Sorts.more (decSort l) n s p) → v ≡ walked-is.Next q f → (r ≡ q) × (o' ≡ emits o (bytes "Int"))
-      → Sends (write-sort (encoderIn s types)) (sortOf s (decSort l) (sort-node.Data x n p)) o o' r
+      → Sends (write-sort (encoderIn s enc)) (sortOf s (decSort l) (sort-node.Data x n p)) o o' r
   unfolding sortOf
   opaque-sends v q f o' r u e1 e2 w =
       let y = next-is sortsFault (many Sorts.none Sorts.more (decSort l) n s p) q f (sym e2 ∙ e1) in
       rw (y .is)
-      (sends-end (write-sort (encoderIn s types)) o o' r (Sort.app (SortCtor.named (bytesOf s x)) (y .value)) q (w .0)
-      (w .1 ∙ ap (emits o) (sym (app-text (encoderIn s types) s l p o (SortCtor.named (bytesOf s x)) true (opaque-is ∙ ap not u) (y .value)))))
+      (sends-end (write-sort (encoderIn s enc)) o o' r (Sort.app (SortCtor.named (bytesOf s x)) (y .value)) q (w .0)
+      (w .1 ∙ ap (emits o) (sym (app-text (encoderIn s enc) s l p o (SortCtor.named (bytesOf s x)) true (opaque-is ∙ ap not u) (y .value)))))
 
   pub skipped-sends : (v : Walked) (k : ℕ) (o' : Output) (r : ℕ) → v ≡ walked sortsFault (many Sorts.none Sorts.more (decSort l) n s p) → v ≡ walked-is.Refused k
-      → Sends (write-sort (encoderIn s types)) (sortOf s (decSort l) (sort-node.Data x n p)) o o' r
+      → Sends (write-sort (encoderIn s enc)) (sortOf s (decSort l) (sort-node.Data x n p)) o o' r
   unfolding sortOf
   skipped-sends v k o' r e1 e2 =
-      rw (refused-is sortsFault (many Sorts.none Sorts.more (decSort l) n s p) k (sym e2 ∙ e1)) (sends-refused (write-sort (encoderIn s types)) o o' r k)
+      rw (refused-is sortsFault (many Sorts.none Sorts.more (decSort l) n s p) k (sym e2 ∙ e1)) (sends-refused (write-sort (encoderIn s enc)) o o' r k)
 
 -- a name with its sort
 module _ (enc : Encoder) (l : ℕ) (s : List ℕ) (at : ℕ) (v : SpanRead) (h : name s at ≡ spanOf s v) (o : Output) where

@@ -1,32 +1,23 @@
 -- What the code's values stand for in what is written.
 use Prim.Native.Nat.{ℕ}
-use mathlib.Core.Bool.{Bool}
 use mathlib.Core.List.{List}
-use mathlib.Core.Path.{_≡_}
-use lib.ListN.{take}
-use Rattle.task.specs.Ast.{SortCtor, Sorts, Binder, DataDecl}
-use Rattle.task.specs.Decode.{got, datatype, section}
+use Rattle.task.specs.Ast.{SortCtor, Sorts, Binder}
 use Rattle.task.specs.Node.{bytesOf}
-use Rattle.task.specs.Task.{declaredBy}
-use Rattle.item_check.specs.Search.{datatypesIn}
-use Rattle.smt_text.specs.Encoder.{Encoder, encoder}
+use Rattle.names.specs.declared.Kind.{Kind}
+use Rattle.names.specs.declared.Kind.the-variants.{Datatype, Constructor}
+use Rattle.names.specs.Table.{numberOf, entries, namesOf}
+use Rattle.smt_text.specs.Encoder.{Encoder}
 use Rattle.smt_text.specs.Text.{spaced, sexp-list, applied, write-sort-ctor, write-sorts, write-binders}
-use Rattle.smt_sort.specs.declared.Datatypes.{Datatypes}
 use Rattle.smt_sort.specs.declared.SortCtor as code
 use Rattle.smt_sort.specs.declared.SortCtor.the-variants as ctor
 
--- the names that a section declares: of constructors, or of datatypes
-unfoldable pub declaredIn : List ℕ → Datatypes → Bool → List (List ℕ)
-declaredIn s d ctors = declaredBy ctors (datatypesIn (take (d .end) s) (d .at))
+-- the declared names of a kind, in the order of the table
+unfoldable pub declaredIn : List ℕ → List ℕ → Kind → List (List ℕ)
+declaredIn s enc kind = namesOf (numberOf kind) (entries s enc)
 
--- the encoder of a section
-unfoldable pub encoderIn : List ℕ → Datatypes → Encoder
-encoderIn s d = encoder (datatypesIn (take (d .end) s) (d .at))
-
--- Where the section decodes it is the encoder of its datatypes. (proofs/Sorts.antt: encoder-is)
-abbrev pub EncoderIs : Type 0
-EncoderIs =
-    (s : List ℕ) (d : Datatypes) (ds : List DataDecl) (q : ℕ) → section datatype (take (d .end) s) (d .at) ≡ got ds q → encoderIn s d ≡ encoder ds
+-- the encoder that a table is
+unfoldable pub encoderIn : List ℕ → List ℕ → Encoder
+encoderIn s enc = record { constructors = declaredIn s enc Constructor; datatypes = declaredIn s enc Datatype }
 
 -- what an applied sort is made by
 abbrev pub ctorOf : List ℕ → code.SortCtor → SortCtor

@@ -1,5 +1,7 @@
-// Writers of sorts. A writer reads any bytes at any position, sends what it writes to the output and asks nothing: where a piece is
-// decoded, it sends the piece's text and ends behind the piece.
+// Writers of sorts. A writer reads any bytes at any position and sends what it writes to the output: where a piece is decoded, it sends the
+// piece's text and ends behind the piece. It asks that the encoder, a symbol table of the declared names, can be searched.
+use names::Found;
+use names::Kind;
 use output::Out;
 use smt_word::Sent;
 use task::SortNode;
@@ -12,15 +14,10 @@ ghost use Rattle.smtlib.specs.Lexicon.{isOne};
 ghost use Rattle.task.specs.Ast.{Sorts};
 ghost use Rattle.task.specs.Decode.{many, binder, decSort};
 ghost use Rattle.task.specs.Node.{bytesOf, sortOf};
+ghost use Rattle.names.specs.Table.{Chained};
 ghost use Rattle.smt_text.specs.Text.{write-sort-ctor, write-sort, write-binder};
 ghost use Rattle.output.specs.Emit.{output, emits, Sends};
 ghost use Rattle.smt_sort.specs.Section.{declaredIn, encoderIn, ctorOf, sortsText, sortList, appliedText, bindersText, binderList};
-
-// Where the datatype section begins and ends.
-pub struct Datatypes {
-    pub at: usize,
-    pub end: usize,
-}
 
 // What an applied sort is made by.
 pub enum SortCtor {
@@ -29,20 +26,17 @@ pub enum SortCtor {
     Data(Span),
 }
 
-// Whether a name is that of a declared constructor, or of a declared datatype.
-pub fn is_declared(s: &[u8], types: Datatypes, x: Span, ctors: bool) -> bool
-    ensures { λ r. ⌜ r ≡ isOne (bytesOf (now (s .entry)) x) (declaredIn (now (s .entry)) types ctors) ⌝ }
+// Whether a name is that of a declared piece of the kind.
+pub fn is_declared(s: &[u8], enc: &[u16], x: Span, kind: Kind) -> bool
+    requires { ⌜ Chained (now s) (now enc) ⌝ }
+    ensures { λ r. ⌜ r ≡ isOne (bytesOf (now (s .entry)) x) (declaredIn (now (s .entry)) (now (enc .entry)) kind) ⌝ }
 {
-    let whole = Span {
-        at: 0,
-        len: types.end,
-    };
-    let section = task::bytes_of(s, whole);
     let name = task::bytes_of(s, x);
-    if ctors {
-        return item_check::is_ctor(section, types.at, name);
-    }
-    item_check::is_datatype(section, types.at, name)
+    let found = names::find(s, enc, name, kind, kind);
+    let Found::Entry(_) = found else {
+        return false;
+    };
+    true
 }
 
 // Sends what an applied sort is made by.
@@ -57,15 +51,9 @@ fn write_sort_ctor(s: &[u8], ctor: SortCtor, buf: &mut [u8], out: Out) -> Out
 }
 
 // Sends the sort at a position.
-pub fn write_sort(
-    s: &[u8],
-    at: usize,
-    levels: usize,
-    types: Datatypes,
-    buf: &mut [u8],
-    out: Out,
-) -> Sent
-    ensures { λ r. ⌜ Sends (write-sort (encoderIn (now (s .entry)) types)) (decSort levels (now (s .entry)) at) (output (now (buf .entry)) (out .len)) (output (now (buf .exit)) (r .out .len)) (r .at) ⌝ }
+pub fn write_sort(s: &[u8], at: usize, levels: usize, enc: &[u16], buf: &mut [u8], out: Out) -> Sent
+    requires { ⌜ Chained (now s) (now enc) ⌝ }
+    ensures { λ r. ⌜ Sends (write-sort (encoderIn (now (s .entry)) (now (enc .entry)))) (decSort levels (now (s .entry)) at) (output (now (buf .entry)) (out .len)) (output (now (buf .exit)) (r .out .len)) (r .at) ⌝ }
 {
     if levels == 0 {
         return Sent { at, out };
@@ -77,31 +65,25 @@ pub fn write_sort(
         SortNode::Bool(p) => smt_word::write_word(b"Bool", p, buf, out),
         SortNode::Real(p) => smt_word::write_word(b"Real", p, buf, out),
         SortNode::Str(p) => smt_word::write_word(b"String", p, buf, out),
-        SortNode::BitVec(p) => write_bit_vec(s, p, below, types, buf, out),
+        SortNode::BitVec(p) => write_bit_vec(s, p, below, enc, buf, out),
         SortNode::BvSize(n, p) => smt_word::write_number(n, p, buf, out),
         SortNode::Var(i, p) => smt_word::write_parameter(i, p, buf, out),
-        SortNode::Func(p) => write_array(s, p, below, types, buf, out),
-        SortNode::Abs(_, p) => write_sort(s, p, below, types, buf, out),
-        SortNode::Set(n, p) => write_applied(s, SortCtor::Set, n, p, below, types, buf, out),
-        SortNode::Map(n, p) => write_applied(s, SortCtor::Map, n, p, below, types, buf, out),
-        SortNode::Data(x, n, p) => write_data(s, x, n, p, below, types, buf, out),
+        SortNode::Func(p) => write_array(s, p, below, enc, buf, out),
+        SortNode::Abs(_, p) => write_sort(s, p, below, enc, buf, out),
+        SortNode::Set(n, p) => write_applied(s, SortCtor::Set, n, p, below, enc, buf, out),
+        SortNode::Map(n, p) => write_applied(s, SortCtor::Map, n, p, below, enc, buf, out),
+        SortNode::Data(x, n, p) => write_data(s, x, n, p, below, enc, buf, out),
         SortNode::Refused => Sent { at, out },
     }
 }
 
 // A BitVec with its width.
-fn write_bit_vec(
-    s: &[u8],
-    at: usize,
-    levels: usize,
-    types: Datatypes,
-    buf: &mut [u8],
-    out: Out,
-) -> Sent
-    ensures { λ r. ⌜ Sends (write-sort (encoderIn (now (s .entry)) types)) (sortOf (now (s .entry)) (decSort levels) (SortNode.BitVec at)) (output (now (buf .entry)) (out .len)) (output (now (buf .exit)) (r .out .len)) (r .at) ⌝ }
+fn write_bit_vec(s: &[u8], at: usize, levels: usize, enc: &[u16], buf: &mut [u8], out: Out) -> Sent
+    requires { ⌜ Chained (now s) (now enc) ⌝ }
+    ensures { λ r. ⌜ Sends (write-sort (encoderIn (now (s .entry)) (now (enc .entry)))) (sortOf (now (s .entry)) (decSort levels) (SortNode.BitVec at)) (output (now (buf .entry)) (out .len)) (output (now (buf .exit)) (r .out .len)) (r .at) ⌝ }
 {
     let opened = out.bytes(buf, b"(_ BitVec ");
-    let width = write_sort(s, at, levels, types, buf, opened);
+    let width = write_sort(s, at, levels, enc, buf, opened);
     let sent = width.out;
     let closed = sent.byte(buf, b')');
     Sent {
@@ -111,21 +93,15 @@ fn write_bit_vec(
 }
 
 // A Func as an array.
-fn write_array(
-    s: &[u8],
-    at: usize,
-    levels: usize,
-    types: Datatypes,
-    buf: &mut [u8],
-    out: Out,
-) -> Sent
-    ensures { λ r. ⌜ Sends (write-sort (encoderIn (now (s .entry)) types)) (sortOf (now (s .entry)) (decSort levels) (SortNode.Func at)) (output (now (buf .entry)) (out .len)) (output (now (buf .exit)) (r .out .len)) (r .at) ⌝ }
+fn write_array(s: &[u8], at: usize, levels: usize, enc: &[u16], buf: &mut [u8], out: Out) -> Sent
+    requires { ⌜ Chained (now s) (now enc) ⌝ }
+    ensures { λ r. ⌜ Sends (write-sort (encoderIn (now (s .entry)) (now (enc .entry)))) (sortOf (now (s .entry)) (decSort levels) (SortNode.Func at)) (output (now (buf .entry)) (out .len)) (output (now (buf .exit)) (r .out .len)) (r .at) ⌝ }
 {
     let opened = out.bytes(buf, b"(Array ");
-    let from = write_sort(s, at, levels, types, buf, opened);
+    let from = write_sort(s, at, levels, enc, buf, opened);
     let first = from.out;
     let spaced = first.byte(buf, b' ');
-    let to = write_sort(s, from.at, levels, types, buf, spaced);
+    let to = write_sort(s, from.at, levels, enc, buf, spaced);
     let second = to.out;
     let closed = second.byte(buf, b')');
     Sent {
@@ -141,11 +117,12 @@ fn write_applied(
     n: u64,
     at: usize,
     levels: usize,
-    types: Datatypes,
+    enc: &[u16],
     buf: &mut [u8],
     out: Out,
 ) -> Sent
-    ensures { λ r. ⌜ Sends (appliedText (encoderIn (now (s .entry)) types) (ctorOf (now (s .entry)) ctor)) (many Sorts.none Sorts.more (decSort levels) n (now (s .entry)) at) (output (now (buf .entry)) (out .len)) (output (now (buf .exit)) (r .out .len)) (r .at) ⌝ }
+    requires { ⌜ Chained (now s) (now enc) ⌝ }
+    ensures { λ r. ⌜ Sends (appliedText (encoderIn (now (s .entry)) (now (enc .entry))) (ctorOf (now (s .entry)) ctor)) (many Sorts.none Sorts.more (decSort levels) n (now (s .entry)) at) (output (now (buf .entry)) (out .len)) (output (now (buf .exit)) (r .out .len)) (r .at) ⌝ }
 {
     if n == 0 {
         let sent = write_sort_ctor(s, ctor, buf, out);
@@ -153,7 +130,7 @@ fn write_applied(
     }
     let opened = out.byte(buf, b'(');
     let made = write_sort_ctor(s, ctor, buf, opened);
-    let sorts = write_sorts(s, at, n, levels, types, buf, made);
+    let sorts = write_sorts(s, at, n, levels, enc, buf, made);
     let sent = sorts.out;
     let closed = sent.byte(buf, b')');
     Sent {
@@ -169,14 +146,15 @@ fn write_data(
     n: u64,
     at: usize,
     levels: usize,
-    types: Datatypes,
+    enc: &[u16],
     buf: &mut [u8],
     out: Out,
 ) -> Sent
-    ensures { λ r. ⌜ Sends (write-sort (encoderIn (now (s .entry)) types)) (sortOf (now (s .entry)) (decSort levels) (SortNode.Data x n at)) (output (now (buf .entry)) (out .len)) (output (now (buf .exit)) (r .out .len)) (r .at) ⌝ }
+    requires { ⌜ Chained (now s) (now enc) ⌝ }
+    ensures { λ r. ⌜ Sends (write-sort (encoderIn (now (s .entry)) (now (enc .entry)))) (sortOf (now (s .entry)) (decSort levels) (SortNode.Data x n at)) (output (now (buf .entry)) (out .len)) (output (now (buf .exit)) (r .out .len)) (r .at) ⌝ }
 {
-    if is_declared(s, types, x, false) {
-        return write_applied(s, SortCtor::Data(x), n, at, levels, types, buf, out);
+    if is_declared(s, enc, x, Kind::Datatype) {
+        return write_applied(s, SortCtor::Data(x), n, at, levels, enc, buf, out);
     }
     let sorts = task_check::check_sorts(s, at, n, levels);
     let Walked::Next(p, _) = sorts else {
@@ -191,18 +169,19 @@ fn write_sorts(
     at: usize,
     n: u64,
     levels: usize,
-    types: Datatypes,
+    enc: &[u16],
     buf: &mut [u8],
     out: Out,
 ) -> Sent
-    ensures { λ r. ⌜ Sends (sortsText (encoderIn (now (s .entry)) types)) (many Sorts.none Sorts.more (decSort levels) n (now (s .entry)) at) (output (now (buf .entry)) (out .len)) (output (now (buf .exit)) (r .out .len)) (r .at) ⌝ }
+    requires { ⌜ Chained (now s) (now enc) ⌝ }
+    ensures { λ r. ⌜ Sends (sortsText (encoderIn (now (s .entry)) (now (enc .entry)))) (many Sorts.none Sorts.more (decSort levels) n (now (s .entry)) at) (output (now (buf .entry)) (out .len)) (output (now (buf .exit)) (r .out .len)) (r .at) ⌝ }
 {
     let mut p = at;
     let mut left = n;
     let mut sent = out;
     while 0 < left {
         let spaced = sent.byte(buf, b' ');
-        let one = write_sort(s, p, levels, types, buf, spaced);
+        let one = write_sort(s, p, levels, enc, buf, spaced);
         p = one.at;
         sent = one.out;
         left -= 1;
@@ -216,18 +195,19 @@ pub fn write_sort_list(
     at: usize,
     n: u64,
     levels: usize,
-    types: Datatypes,
+    enc: &[u16],
     buf: &mut [u8],
     out: Out,
 ) -> Sent
-    ensures { λ r. ⌜ Sends (sortList (encoderIn (now (s .entry)) types)) (many Sorts.none Sorts.more (decSort levels) n (now (s .entry)) at) (output (now (buf .entry)) (out .len)) (output (now (buf .exit)) (r .out .len)) (r .at) ⌝ }
+    requires { ⌜ Chained (now s) (now enc) ⌝ }
+    ensures { λ r. ⌜ Sends (sortList (encoderIn (now (s .entry)) (now (enc .entry)))) (many Sorts.none Sorts.more (decSort levels) n (now (s .entry)) at) (output (now (buf .entry)) (out .len)) (output (now (buf .exit)) (r .out .len)) (r .at) ⌝ }
 {
     if n == 0 {
         return smt_word::write_word(b"()", at, buf, out);
     }
     let opened = out.byte(buf, b'(');
-    let first = write_sort(s, at, levels, types, buf, opened);
-    let rest = write_sorts(s, first.at, n - 1, levels, types, buf, first.out);
+    let first = write_sort(s, at, levels, enc, buf, opened);
+    let rest = write_sorts(s, first.at, n - 1, levels, enc, buf, first.out);
     let sent = rest.out;
     let closed = sent.byte(buf, b')');
     Sent {
@@ -241,11 +221,12 @@ pub fn write_binder(
     s: &[u8],
     at: usize,
     levels: usize,
-    types: Datatypes,
+    enc: &[u16],
     buf: &mut [u8],
     out: Out,
 ) -> Sent
-    ensures { λ r. ⌜ Sends (write-binder (encoderIn (now (s .entry)) types)) (binder levels (now (s .entry)) at) (output (now (buf .entry)) (out .len)) (output (now (buf .exit)) (r .out .len)) (r .at) ⌝ }
+    requires { ⌜ Chained (now s) (now enc) ⌝ }
+    ensures { λ r. ⌜ Sends (write-binder (encoderIn (now (s .entry)) (now (enc .entry)))) (binder levels (now (s .entry)) at) (output (now (buf .entry)) (out .len)) (output (now (buf .exit)) (r .out .len)) (r .at) ⌝ }
 {
     let read = task::read_name(s, at);
     let SpanRead::At(x, p) = read else {
@@ -254,7 +235,7 @@ pub fn write_binder(
     let opened = out.byte(buf, b'(');
     let named = opened.name(buf, s, x);
     let spaced = named.byte(buf, b' ');
-    let sort = write_sort(s, p, levels, types, buf, spaced);
+    let sort = write_sort(s, p, levels, enc, buf, spaced);
     let sent = sort.out;
     let closed = sent.byte(buf, b')');
     Sent {
@@ -269,18 +250,19 @@ pub fn write_binders(
     at: usize,
     n: u64,
     levels: usize,
-    types: Datatypes,
+    enc: &[u16],
     buf: &mut [u8],
     out: Out,
 ) -> Sent
-    ensures { λ r. ⌜ Sends (bindersText (encoderIn (now (s .entry)) types)) (many [] _∷_ (binder levels) n (now (s .entry)) at) (output (now (buf .entry)) (out .len)) (output (now (buf .exit)) (r .out .len)) (r .at) ⌝ }
+    requires { ⌜ Chained (now s) (now enc) ⌝ }
+    ensures { λ r. ⌜ Sends (bindersText (encoderIn (now (s .entry)) (now (enc .entry)))) (many [] _∷_ (binder levels) n (now (s .entry)) at) (output (now (buf .entry)) (out .len)) (output (now (buf .exit)) (r .out .len)) (r .at) ⌝ }
 {
     let mut p = at;
     let mut left = n;
     let mut sent = out;
     while 0 < left {
         let spaced = sent.byte(buf, b' ');
-        let one = write_binder(s, p, levels, types, buf, spaced);
+        let one = write_binder(s, p, levels, enc, buf, spaced);
         p = one.at;
         sent = one.out;
         left -= 1;
@@ -294,18 +276,19 @@ pub fn write_binder_list(
     at: usize,
     n: u64,
     levels: usize,
-    types: Datatypes,
+    enc: &[u16],
     buf: &mut [u8],
     out: Out,
 ) -> Sent
-    ensures { λ r. ⌜ Sends (binderList (encoderIn (now (s .entry)) types)) (many [] _∷_ (binder levels) n (now (s .entry)) at) (output (now (buf .entry)) (out .len)) (output (now (buf .exit)) (r .out .len)) (r .at) ⌝ }
+    requires { ⌜ Chained (now s) (now enc) ⌝ }
+    ensures { λ r. ⌜ Sends (binderList (encoderIn (now (s .entry)) (now (enc .entry)))) (many [] _∷_ (binder levels) n (now (s .entry)) at) (output (now (buf .entry)) (out .len)) (output (now (buf .exit)) (r .out .len)) (r .at) ⌝ }
 {
     if n == 0 {
         return smt_word::write_word(b"()", at, buf, out);
     }
     let opened = out.byte(buf, b'(');
-    let first = write_binder(s, at, levels, types, buf, opened);
-    let rest = write_binders(s, first.at, n - 1, levels, types, buf, first.out);
+    let first = write_binder(s, at, levels, enc, buf, opened);
+    let rest = write_binders(s, first.at, n - 1, levels, enc, buf, first.out);
     let sent = rest.out;
     let closed = sent.byte(buf, b')');
     Sent {

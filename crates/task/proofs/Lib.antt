@@ -9,3 +9,6 @@ pub mod Items
 pub mod Examples
 pub mod Levels
 pub mod Returning
+pub mod Running
+pub mod Sections
+pub mod Opened

@@ -2,11 +2,12 @@
 use mathlib.Core.Bool.{Bool, true, false, cond}
 use mathlib.Core.List.{List, [], _∷_}
 use mathlib.Core.Option.{none}
-use Prim.Native.Nat.{ℕ, zero, suc, _-_, _≤_}
+use Prim.Native.Nat.{ℕ, zero, suc, _+_, _-_, _≤_}
 use native.Mathlib.Omega.{arith}
 use lib.Dec.{eqb}
+use borrow.Author.Tests.{ne-eqb}
 use Rattle.task.specs.Ast.{Sort, Sorts, Expr, Exprs, Constraint, Constraints}
-use Rattle.task.specs.Decode.{Decoder, give, refusal, _▹_, raw, number, many, counted, name, text, coded, flags, flag, sortForms, decSort, binder, binOps, binRels, quantifiers, thyFuncs, extends, given, exprForms, decExpr, predForms, decPred, constraintForms, decConstraint, deepest, dataCtor, body}
+use Rattle.task.specs.Decode.{Decoder, give, refusal, _▹_, raw, number, many, counted, name, text, coded, flags, flag, sortForms, decSort, binder, binOps, binRels, quantifiers, thyFuncs, extends, given, exprForms, decExpr, predForms, decPred, constraintForms, decConstraint, deepest, dataCtor, body, function, kvar}
 use Rattle.task.specs.Task.{literallyTrue, predHeads, headsOf, headsIn}
 use Rattle.task.specs.Covers.{Covers, CoversSome, EachCovers}
 use Rattle.task.proofs.Covering.{covers-less, covers-refusal, covers-give, covers-cond, covers-raw, covers-bind, covers-many, covers-number, CoverAll, covers-coded}
@@ -224,3 +225,30 @@ each-covers = record {
   functions = some-then names (λ n. any-number 2 ⟫ λ v. any-counted Sorts.none Sorts.more (any (sorts deepest)) ⟫ λ bs. any (sorts deepest) ⟫ λ b. flags-cover ⟫ λ f. bodies f ⟫ λ o. nothing);
   kvars = some-then names (λ n. any-counted Sorts.none Sorts.more (any (sorts deepest)) ⟫ λ bs. nothing);
 }
+
+-- WITH A DECLARED NAME
+
+-- a name takes two bytes at least
+pub wide-names : Covers (λ x. 2) name
+wide-names = covers-bind (λ x. 2) (λ n. 1) (number 1) (λ n. cond (eqb n 0) (refusal 2) (raw n)) (covers-number 1) rest
+  where
+    rest : (n : ℕ) → Covers (λ w. 1) (cond (eqb n 0) (refusal 2) (raw n))
+    rest zero = covers-refusal (λ w. 1) 2
+    rest (suc n) = rw (ne-eqb (suc n) 0 (λ e. omega arith)) (covers-less (λ w. suc n) (λ w. 1) (raw (suc n)) (λ w. omega arith) (covers-raw (suc n)))
+
+-- counted pieces take two bytes besides their own
+pub wide-counted : {A B : Type 0} (size : B → ℕ) (end : B) (more : A → B → B) {d : Decoder A} → ((n : ℕ) → Covers size (many end more d n)) → Covers (λ b. 2 + size b) (counted end more d)
+wide-counted size end more {d} c =
+    covers-bind (λ b. 2 + size b) (λ n. 2) (number 2) (many end more d) (covers-number 2)
+    (λ n. covers-less size (λ b. 2 + size b - 2) (many end more d n) (λ b. omega arith) (c n))
+
+-- a function and a KVar take three
+pub wide-functions : Covers (λ f. 3) function
+wide-functions =
+    covers-bind (λ f. 3) (λ x. 2) name _ wide-names (λ n. covers-bind (λ f. 1) (λ p. 2) (number 2) _ (covers-number 2) (λ v.
+    any-counted Sorts.none Sorts.more (any (sorts deepest)) ⟫ λ bs. any (sorts deepest) ⟫ λ b. flags-cover ⟫ λ f. bodies f ⟫ λ o. nothing))
+
+pub wide-kvars : Covers (λ k. 3) kvar
+wide-kvars =
+    covers-bind (λ k. 3) (λ x. 2) name _ wide-names (λ n.
+    covers-bind (λ k. 1) (λ bs. 2) (counted Sorts.none Sorts.more (decSort deepest)) _ (wide-counted (λ bs. 0) Sorts.none Sorts.more (any-many Sorts.none Sorts.more (any (sorts deepest)))) (λ bs. nothing))

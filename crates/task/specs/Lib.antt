@@ -6,3 +6,4 @@ pub mod Returns
 pub mod Covers
 pub mod Laws
 pub mod Node
+pub mod Run

@@ -8,6 +8,7 @@ use Rattle.task.specs.declared.Fault.the-variants.{Sound}
 use Rattle.task.specs.Decode.{Res, got, refuse, bind, Decoder, give, _▹_, many}
 use borrow.Author.Tests.{le-leb, lt-leb}
 use Rattle.task.specs.Fault.{rank, lower}
+use Rattle.task.proofs.Reading.{bind-got, got-refuse}
 use Rattle.task.proofs.Judging.{lower-sound, sound-lower, lower-assoc}
 use Rattle.task_check.specs.declared.Walked.{Walked}
 use Rattle.task_check.specs.declared.Walked.the-variants as walked-is
@@ -49,6 +50,20 @@ next-is one (refuse k) q g e = absurd (let z : _≡_ {A = ℕ} 0 1 = cc in omega
 pub refused-is : {A : Type 0} (one : A → Fault) (x : Res A) (k : ℕ) → walked-is.Refused k ≡ walked one x → x ≡ refuse k
 refused-is one (got a p) k e = absurd (let z : _≡_ {A = ℕ} 0 1 = cc in omega arith)
 refused-is one (refuse j) k e = ap refuse (cc)
+
+-- a piece that is made of another, which a walker walked: where the walker ended there it ends, and where it refused there is none
+module _ {A B : Type 0} (one : A → Fault) (make : A → B) (x : Res A) (v : Walked) (e : v ≡ walked one x) (b : B) (z : ℕ) (g : bind x (λ a p. got (make a) p) ≡ got b z) where
+  pub made-ends : (q : ℕ) (f : Fault) → v ≡ walked-is.Next q f → q ≡ z
+  made-ends q f h =
+      let i = bind-got x (λ a p. got (make a) p) b z g in
+      let y : walked-is.Next q f ≡ walked-is.Next (i .next) (one (i .value)) = sym h ∙ e ∙ ap (walked one) (i .first) in
+      let k : i .next ≡ z = cc in
+      cc
+
+  pub made-none : {C : Type 0} (k : ℕ) → v ≡ walked-is.Refused k → C
+  made-none k h =
+      let i = bind-got x (λ a p. got (make a) p) b z g in
+      got-refuse (sym (i .first) ∙ refused-is one x k (sym h ∙ e))
 
 module _ {A R : Type 0} {end : R} {more : A → R → R} {one : A → Fault} {all : R → Fault} (fold : Fold end more one all) (d : Decoder A) (s : List ℕ) where
   put-before : (a : A) (x : Res R) → walked all (bind x (λ b q. got (more a b) q)) ≡ after (one a) (walked all x)

@@ -1,11 +1,13 @@
 // Writes the pieces of standard input, each behind a byte for its kind, the end of its datatype section in 2 bytes and its length in 2: for
 // each the number of bytes that it is measured to have, a space, its text and a line feed. It reads at most 4,096 pieces.
+use item_check::Section;
 use libc::STDOUT_FILENO;
 use output::Out;
-use smt_sort::Datatypes;
 use smt_word::Sent;
 use task::Number;
 ghost use Prim.Native.Nat.{_≤_};
+ghost use lib.ListN.{length};
+ghost use Rattle.names.specs.Table.{Chained};
 
 fn main() {
     let mut left: usize = 4096;
@@ -49,7 +51,9 @@ fn write_sized(kind: u8, end: usize, n: usize) -> bool
 }
 
 // A piece that fills the slice.
-fn write_from(kind: u8, end: usize, body: &mut [u8]) -> bool {
+fn write_from(kind: u8, end: usize, body: &mut [u8]) -> bool
+    requires { ⌜ length (now body) ≤ 65535 ⌝ }
+{
     let n = body.len();
     let m = io::read_full(0, body);
     if m < n {
@@ -60,21 +64,27 @@ fn write_from(kind: u8, end: usize, body: &mut [u8]) -> bool {
 }
 
 // Measures the piece behind the datatype section without a buffer, and writes it into one.
-fn print_piece(kind: u8, end: usize, body: &[u8]) {
+fn print_piece(kind: u8, end: usize, body: &[u8])
+    requires { ⌜ length (now body) ≤ 65535 ⌝ }
+{
     print_measure(kind, end, body);
     io::write_all(STDOUT_FILENO, b" ");
     print_written(kind, end, body);
     io::write_all(STDOUT_FILENO, b"\n");
 }
 
-fn print_measure(kind: u8, end: usize, body: &[u8]) {
+fn print_measure(kind: u8, end: usize, body: &[u8])
+    requires { ⌜ length (now body) ≤ 65535 ⌝ }
+{
     let mut buffer = [0u8; 1];
     let sent = write_piece(kind, end, body, &mut buffer[..0]);
     let out = sent.out;
     io::print_decimal(STDOUT_FILENO, out.len as u64);
 }
 
-fn print_written(kind: u8, end: usize, body: &[u8]) {
+fn print_written(kind: u8, end: usize, body: &[u8])
+    requires { ⌜ length (now body) ≤ 65535 ⌝ }
+{
     let mut buffer = io::large_buffer();
     let sent = write_piece(kind, end, body, &mut buffer);
     let out = sent.out;
@@ -88,18 +98,33 @@ fn print_text(text: &[u8], n: usize) {
     }
 }
 
-// The piece of that kind.
-fn write_piece(kind: u8, end: usize, body: &[u8], buf: &mut [u8]) -> Sent {
-    let types = Datatypes { at: 0, end };
+// The piece of that kind, with a table of the names that the datatype section declares.
+fn write_piece(kind: u8, end: usize, body: &[u8], buf: &mut [u8]) -> Sent
+    requires { ⌜ length (now body) ≤ 65535 ⌝ }
+{
+    let mut table = [0u16; 66562];
+    if end <= body.len() {
+        declared::push_section(body, 0, end, Section::Datatypes, &mut table);
+        return write_encoded(kind, end, body, &table, buf);
+    }
+    Sent {
+        at: end,
+        out: Out::new(),
+    }
+}
+
+fn write_encoded(kind: u8, end: usize, body: &[u8], enc: &[u16], buf: &mut [u8]) -> Sent
+    requires { ⌜ Chained (now body) (now enc) ⌝ }
+{
     let out = Out::new();
     match kind {
-        0 => smt_sort::write_sort(body, end, 256, types, buf, out),
-        1 => smt_expr::write_expr(body, end, 256, types, buf, out),
-        2 => smt_fmt::write_pred(body, end, 256, types, buf, out),
-        3 => smt_fmt::write_datatype_decl(body, end, types, buf, out),
-        4 => smt_fmt::write_const_decl(body, end, types, buf, out),
-        5 => smt_fmt::write_fun_def(body, end, types, buf, out),
-        6 => smt_fmt::write_kvar_decl(body, end, types, buf, out),
+        0 => smt_sort::write_sort(body, end, 256, enc, buf, out),
+        1 => smt_expr::write_expr(body, end, 256, enc, buf, out),
+        2 => smt_fmt::write_pred(body, end, 256, enc, buf, out),
+        3 => smt_fmt::write_datatype_decl(body, end, enc, buf, out),
+        4 => smt_fmt::write_const_decl(body, end, enc, buf, out),
+        5 => smt_fmt::write_fun_def(body, end, enc, buf, out),
+        6 => smt_fmt::write_kvar_decl(body, end, enc, buf, out),
         7..=255 => Sent { at: end, out },
     }
 }

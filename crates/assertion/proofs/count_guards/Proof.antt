@@ -5,7 +5,7 @@ use Rattle.assertion.proofs.count_guards.Statement.{statement}
 use Rattle.assertion.proofs.count_guards.Tie as tie
 
 returns : tie.Need-returns
-returns c = kept-count _ _ _ _ _ _ (c .before .before .before .before .before .pre) (c .if1 .taken)
+returns c = kept-count _ _ _ _ _ _ (c .before .before .before .before .before .before .pre) (c .if1 .taken)
 
 count-each-guard-requires : tie.Need-count-each-guard-requires
 count-each-guard-requires c κs = search needs

@@ -5,7 +5,7 @@ use Rattle.assertion.proofs.extend.Statement.{statement}
 use Rattle.assertion.proofs.extend.Tie as tie
 
 returns : tie.Need-returns
-returns c = extends-not _ _ _ _ _ _ (c .before .before .before .before .before .pre) (c .if1 .taken)
+returns c = extends-not _ _ _ _ _ _ (c .before .before .before .before .before .before .pre .1) (c .if1 .taken)
 
 sub-vars-left : tie.Need-sub-vars-left
 sub-vars-left c = search needs
@@ -53,7 +53,7 @@ same-length-2 : tie.Need-same-length-2
 same-length-2 c = search needs
 
 returns-2 : tie.Need-returns-2
-returns-2 c = extends-none _ _ _ _ _ _ (c .before .before .before .before .before .before .before .before .before .before .before .before .before .before .before .before .before .before .pre) _ _ _ (c .no-more .ensures) (lent-stays (c .before .before .before .before .before .before .before .before .before .before .before .before .before .before .before .before .before .before .args .s .now) (c .before .before .before .before .before .before .before .before .before .before .before .before .before .before .before .before .before .before .args .types) (c .before .before .before .before .before .before .before .before .before .before .before .before .before .before .before .before .before .before .args .at) _ _ _ (c .before .before .before .before .before .before .before .before .before .before .before .before .before .before .before .before .before .before .pre) (c .before .before .before .before .before .before .before .before .before .before .write-binder .last .1 .1 .1 .1 .0) (c .before .before .before .before .before .write-own-guards .last .1 .1 .1 .0) (c .before .before .before .before .before .before .before .before .before .before .write-binder .kept .1 .1 .1 .1 .0) (c .before .before .before .before .before .write-own-guards .kept .1 .1 .1 .0))
+returns-2 c = extends-none _ _ _ _ _ _ (c .before .before .before .before .before .before .before .before .before .before .before .before .before .before .before .before .before .before .before .pre .1) _ _ _ (c .no-more .ensures) (lent-stays (c .before .before .before .before .before .before .before .before .before .before .before .before .before .before .before .before .before .before .before .args .s .now) (c .before .before .before .before .before .before .before .before .before .before .before .before .before .before .before .before .before .before .before .args .enc .now) (c .before .before .before .before .before .before .before .before .before .before .before .before .before .before .before .before .before .before .before .args .at) _ _ _ (c .before .before .before .before .before .before .before .before .before .before .before .before .before .before .before .before .before .before .before .pre .1) (c .before .before .before .before .before .before .before .before .before .before .write-binder .last .1 .1 .1 .1 .0) (c .before .before .before .before .before .write-own-guards .last .1 .1 .1 .0) (c .before .before .before .before .before .before .before .before .before .before .write-binder .kept .1 .1 .1 .1 .0) (c .before .before .before .before .before .write-own-guards .kept .1 .1 .1 .0))
 
 no-more-requires-2 : tie.Need-no-more-requires-2
 no-more-requires-2 c κs = search needs
@@ -65,7 +65,7 @@ same-length-4 : tie.Need-same-length-4
 same-length-4 c = search needs
 
 returns-3 : tie.Need-returns-3
-returns-3 c = extends-none _ _ _ _ _ _ (c .before .before .before .before .before .before .before .before .before .before .before .before .before .before .before .before .before .before .before .pre) _ _ _ (c .no-more2 .ensures) (lent-stays (c .before .before .before .before .before .before .before .before .before .before .before .before .before .before .before .before .before .before .before .args .s .now) (c .before .before .before .before .before .before .before .before .before .before .before .before .before .before .before .before .before .before .before .args .types) (c .before .before .before .before .before .before .before .before .before .before .before .before .before .before .before .before .before .before .before .args .at) _ _ _ (c .before .before .before .before .before .before .before .before .before .before .before .before .before .before .before .before .before .before .before .pre) (c .before .before .before .before .before .before .before .before .before .before .before .write-binder .last .1 .1 .1 .1 .0) (c .before .before .before .before .before .before .write-own-guards .last .1 .1 .1 .0) (c .before .before .before .before .before .before .before .before .before .before .before .write-binder .kept .1 .1 .1 .1 .0) (c .before .before .before .before .before .before .write-own-guards .kept .1 .1 .1 .0))
+returns-3 c = extends-none _ _ _ _ _ _ (c .before .before .before .before .before .before .before .before .before .before .before .before .before .before .before .before .before .before .before .before .pre .1) _ _ _ (c .no-more2 .ensures) (lent-stays (c .before .before .before .before .before .before .before .before .before .before .before .before .before .before .before .before .before .before .before .before .args .s .now) (c .before .before .before .before .before .before .before .before .before .before .before .before .before .before .before .before .before .before .before .before .args .enc .now) (c .before .before .before .before .before .before .before .before .before .before .before .before .before .before .before .before .before .before .before .before .args .at) _ _ _ (c .before .before .before .before .before .before .before .before .before .before .before .before .before .before .before .before .before .before .before .before .pre .1) (c .before .before .before .before .before .before .before .before .before .before .before .write-binder .last .1 .1 .1 .1 .0) (c .before .before .before .before .before .before .write-own-guards .last .1 .1 .1 .0) (c .before .before .before .before .before .before .before .before .before .before .before .write-binder .kept .1 .1 .1 .1 .0) (c .before .before .before .before .before .before .write-own-guards .kept .1 .1 .1 .0))
 
 add-t17 : tie.Need-add-t17
 add-t17 c = search needs
@@ -83,7 +83,7 @@ same-length-6 : tie.Need-same-length-6
 same-length-6 c = search needs
 
 returns-4 : tie.Need-returns-4
-returns-4 c = extends-both _ _ _ _ _ _ (c .before .before .before .before .before .before .before .before .before .before .before .before .before .before .before .before .before .before .before .pre) (c .before .before .before .before .before .before .before .before .before .before .before .write-binder .last .1 .1 .1 .1 .0) (c .before .before .before .before .before .before .write-own-guards .last .1 .1 .1 .0) (c .before .before .before .before .before .before .before .before .before .before .before .write-binder .kept .1 .1 .1 .1 .0) (c .before .before .before .before .before .before .write-own-guards .kept .1 .1 .1 .0) _ _ _ _ _ _ (c .before .before .before .before .before .before .before .before .before .before .before .before .before .before .if1 .left) (c .before .before .before .before .before .before .before .before .before .before .before .before .new .ensures) (c .before .before .before .before .before .before .before .before .before .before .before .write-binder .ensures) (c .before .before .if2 .left) (c .before .before .before .before .before .before .before .new2 .ensures) (c .before .before .before .before .before .before .write-own-guards .ensures) (c .before .if3 .left) (c .count-own-guards .ensures)
+returns-4 c = extends-both _ _ _ _ _ _ (c .before .before .before .before .before .before .before .before .before .before .before .before .before .before .before .before .before .before .before .before .pre .1) (c .before .before .before .before .before .before .before .before .before .before .before .write-binder .last .1 .1 .1 .1 .0) (c .before .before .before .before .before .before .write-own-guards .last .1 .1 .1 .0) (c .before .before .before .before .before .before .before .before .before .before .before .write-binder .kept .1 .1 .1 .1 .0) (c .before .before .before .before .before .before .write-own-guards .kept .1 .1 .1 .0) _ _ _ _ _ _ (c .before .before .before .before .before .before .before .before .before .before .before .before .before .before .if1 .left) (c .before .before .before .before .before .before .before .before .before .before .before .before .new .ensures) (c .before .before .before .before .before .before .before .before .before .before .before .write-binder .ensures) (c .before .before .if2 .left) (c .before .before .before .before .before .before .before .new2 .ensures) (c .before .before .before .before .before .before .write-own-guards .ensures) (c .before .if3 .left) (c .count-own-guards .ensures)
 
 pub extend-spec : {M : Type 1} → statement M
 extend-spec =

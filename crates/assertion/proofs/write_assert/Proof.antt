@@ -12,7 +12,7 @@ bytes-requires : tie.Need-bytes-requires
 bytes-requires c κs = search needs
 
 write-implication-requires : tie.Need-write-implication-requires
-write-implication-requires c κs = (c .before .before .before .before .before .before .before .before .before .before .before .before .pre)
+write-implication-requires c κs = (c .before .before .before .before .before .before .before .before .before .before .before .before .before .pre)
 
 slice-aggregate-bytes-2 : tie.Need-slice-aggregate-bytes-2
 slice-aggregate-bytes-2 c = search needs
@@ -33,7 +33,7 @@ bytes-requires-3 : tie.Need-bytes-requires-3
 bytes-requires-3 c κs = search needs
 
 write-vars-requires : tie.Need-write-vars-requires
-write-vars-requires c κs = (c .before .before .before .before .before .before .before .before .before .before .before .before .before .before .before .before .before .pre)
+write-vars-requires c κs = (c .before .before .before .before .before .before .before .before .before .before .before .before .before .before .before .before .before .before .pre)
 
 slice-aggregate-bytes-4 : tie.Need-slice-aggregate-bytes-4
 slice-aggregate-bytes-4 c = search needs
@@ -42,7 +42,7 @@ bytes-requires-4 : tie.Need-bytes-requires-4
 bytes-requires-4 c κs = search needs
 
 write-implication-requires-2 : tie.Need-write-implication-requires-2
-write-implication-requires-2 c κs = (c .before .before .before .before .before .before .before .before .before .before .before .before .before .before .before .before .before .before .before .before .before .before .before .before .before .before .pre)
+write-implication-requires-2 c κs = (c .before .before .before .before .before .before .before .before .before .before .before .before .before .before .before .before .before .before .before .before .before .before .before .before .before .before .before .pre)
 
 slice-aggregate-bytes-5 : tie.Need-slice-aggregate-bytes-5
 slice-aggregate-bytes-5 c = search needs

@@ -8,7 +8,7 @@ is-true-at-requires : tie.Need-is-true-at-requires
 is-true-at-requires c κs = search needs
 
 add-t10 : tie.Need-add-t10
-add-t10 c = let h = true-room (c .before .before .before .before .args .s .now) (c .before .before .before .before .args .at) _ (c .before .is-true-at .ensures) (c .if1 .taken) in search needs
+add-t10 c = let h = true-room (c .before .before .before .before .before .args .s .now) (c .before .before .before .before .before .args .at) _ (c .before .is-true-at .ensures) (c .if1 .taken) in search needs
 
 returns : tie.Need-returns
 returns c = true-sends _ _ _ (c .before .is-true-at .ensures) (c .if1 .taken) _ _

@@ -9,10 +9,10 @@ use Rattle.assertion.proofs.write_kept.Statement.{statement}
 use Rattle.assertion.proofs.write_kept.Tie as tie
 
 abbrev Inv-loop : tie.InvT-loop
-Inv-loop s at n types buf₀ p₀ left₀ sent₀ buf p left sent = Through (kept-steps (encoderIn s types)) s n at (output buf₀ (sent₀ .len)) left p (output buf (sent .len)) × (length buf ≡ length buf₀)
+Inv-loop s at n enc buf₀ p₀ left₀ sent₀ buf p left sent = Through (kept-steps (encoderIn s enc)) s n at (output buf₀ (sent₀ .len)) left p (output buf (sent .len)) × (length buf ≡ length buf₀)
 
 abbrev μ-loop : tie.MeasureT-loop
-μ-loop s at n types buf₀ p₀ left₀ sent₀ buf p left sent = left
+μ-loop s at n enc buf₀ p₀ left₀ sent₀ buf p left sent = left
 
 loop-holds : tie.Need-loop-holds Inv-loop μ-loop
 loop-holds c = (through-start _ _ _ _ _, refl)

@@ -9,10 +9,10 @@ use Rattle.console.proofs.print_all.Statement.{statement}
 use Rattle.console.proofs.print_all.Tie as tie
 
 abbrev Inv-loop : tie.InvT-loop
-Inv-loop file b n buffer₀ from₀ step₀ buffer from step = (65536 ≡ length buffer) × (0 < step) × (step ≤ 65536)
+Inv-loop file b enc n buffer₀ from₀ step₀ buffer from step = (65536 ≡ length buffer) × (0 < step) × (step ≤ 65536)
 
 abbrev μ-loop : tie.MeasureT-loop
-μ-loop file b n buffer₀ from₀ step₀ buffer from step = (n - from) * 65537 + step
+μ-loop file b enc n buffer₀ from₀ step₀ buffer from step = (n - from) * 65537 + step
 
 large-buffer-requires : tie.Need-large-buffer-requires Inv-loop μ-loop
 large-buffer-requires c κs = search needs
@@ -27,7 +27,7 @@ slice-aggregate-write-smt-horn : tie.Need-slice-aggregate-write-smt-horn Inv-loo
 slice-aggregate-write-smt-horn c = search needs
 
 write-smt-horn-requires : tie.Need-write-smt-horn-requires Inv-loop μ-loop
-write-smt-horn-requires c κs = c .before .before .before .before .before .before .pre
+write-smt-horn-requires c κs = c .before .before .before .before .before .before .before .pre
 
 array-share-prefix-buffer : tie.Need-array-share-prefix-buffer Inv-loop μ-loop
 array-share-prefix-buffer c = search needs

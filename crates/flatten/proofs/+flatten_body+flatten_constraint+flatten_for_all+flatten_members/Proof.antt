@@ -40,76 +40,76 @@ use Rattle.flatten.proofs.+flatten_body+flatten_constraint+flatten_for_
   close,
 }
 
-abbrev μ-flatten-body : Measures 5 flatten-body-kinds.ps ℕ
+abbrev μ-flatten-body : Measures 6 flatten-body-kinds.ps ℕ
 μ-flatten-body κs a = 3 * a .1 .1 .0 + 1
 
-abbrev μ-flatten-constraint : Measures 5 flatten-constraint-kinds.ps ℕ
+abbrev μ-flatten-constraint : Measures 6 flatten-constraint-kinds.ps ℕ
 μ-flatten-constraint κs a = 3 * a .1 .1 .0
 
-abbrev μ-flatten-for-all : Measures 5 flatten-for-all-kinds.ps ℕ
+abbrev μ-flatten-for-all : Measures 6 flatten-for-all-kinds.ps ℕ
 μ-flatten-for-all κs a = 3 * a .1 .1 .0 + 2
 
-abbrev μ-flatten-members : Measures 5 flatten-members-kinds.ps ℕ
+abbrev μ-flatten-members : Measures 6 flatten-members-kinds.ps ℕ
 μ-flatten-members κs a = 3 * a .1 .1 .1 .0 + 1
 
-abbrev flatten-body-at : ℕ → In 5 flatten-body-kinds.ps
+abbrev flatten-body-at : ℕ → In 6 flatten-body-kinds.ps
 flatten-body-at t =
-    and 5 flatten-body-kinds.ps (is 5 flatten-body-kinds.ps μ-flatten-body t) flatten-body.Pre
+    and 6 flatten-body-kinds.ps (is 6 flatten-body-kinds.ps μ-flatten-body t) flatten-body.Pre
 
-abbrev flatten-body-below : ℕ → In 5 flatten-body-kinds.ps
+abbrev flatten-body-below : ℕ → In 6 flatten-body-kinds.ps
 flatten-body-below t =
     and
-    5
+    6
     flatten-body-kinds.ps
-    (falls 5 flatten-body-kinds.ps _<_ μ-flatten-body t)
+    (falls 6 flatten-body-kinds.ps _<_ μ-flatten-body t)
     flatten-body.Pre
 
-abbrev flatten-constraint-at : ℕ → In 5 flatten-constraint-kinds.ps
+abbrev flatten-constraint-at : ℕ → In 6 flatten-constraint-kinds.ps
 flatten-constraint-at t =
     and
-    5
+    6
     flatten-constraint-kinds.ps
-    (is 5 flatten-constraint-kinds.ps μ-flatten-constraint t)
+    (is 6 flatten-constraint-kinds.ps μ-flatten-constraint t)
     flatten-constraint.Pre
 
-abbrev flatten-constraint-below : ℕ → In 5 flatten-constraint-kinds.ps
+abbrev flatten-constraint-below : ℕ → In 6 flatten-constraint-kinds.ps
 flatten-constraint-below t =
     and
-    5
+    6
     flatten-constraint-kinds.ps
-    (falls 5 flatten-constraint-kinds.ps _<_ μ-flatten-constraint t)
+    (falls 6 flatten-constraint-kinds.ps _<_ μ-flatten-constraint t)
     flatten-constraint.Pre
 
-abbrev flatten-for-all-at : ℕ → In 5 flatten-for-all-kinds.ps
+abbrev flatten-for-all-at : ℕ → In 6 flatten-for-all-kinds.ps
 flatten-for-all-at t =
     and
-    5
+    6
     flatten-for-all-kinds.ps
-    (is 5 flatten-for-all-kinds.ps μ-flatten-for-all t)
+    (is 6 flatten-for-all-kinds.ps μ-flatten-for-all t)
     flatten-for-all.Pre
 
-abbrev flatten-for-all-below : ℕ → In 5 flatten-for-all-kinds.ps
+abbrev flatten-for-all-below : ℕ → In 6 flatten-for-all-kinds.ps
 flatten-for-all-below t =
     and
-    5
+    6
     flatten-for-all-kinds.ps
-    (falls 5 flatten-for-all-kinds.ps _<_ μ-flatten-for-all t)
+    (falls 6 flatten-for-all-kinds.ps _<_ μ-flatten-for-all t)
     flatten-for-all.Pre
 
-abbrev flatten-members-at : ℕ → In 5 flatten-members-kinds.ps
+abbrev flatten-members-at : ℕ → In 6 flatten-members-kinds.ps
 flatten-members-at t =
     and
-    5
+    6
     flatten-members-kinds.ps
-    (is 5 flatten-members-kinds.ps μ-flatten-members t)
+    (is 6 flatten-members-kinds.ps μ-flatten-members t)
     flatten-members.Pre
 
-abbrev flatten-members-below : ℕ → In 5 flatten-members-kinds.ps
+abbrev flatten-members-below : ℕ → In 6 flatten-members-kinds.ps
 flatten-members-below t =
     and
-    5
+    6
     flatten-members-kinds.ps
-    (falls 5 flatten-members-kinds.ps _<_ μ-flatten-members t)
+    (falls 6 flatten-members-kinds.ps _<_ μ-flatten-members t)
     flatten-members.Pre
 
 -- what the calls in it ask and give
@@ -129,19 +129,19 @@ abbrev flatten-members-calls : ℕ → flatten-members-lts.Claims
 flatten-members-calls t = (flatten-constraint-below t, flatten-constraint.Post)
 
 flatten-body-extend-requires : (t : ℕ) → flatten-body-lts.Need-extend-requires (flatten-body-calls t) (flatten-body-at t) flatten-body.Post
-flatten-body-extend-requires t c κs = c .before .before .before .before .before .before .before .pre .1 .1 .fits
+flatten-body-extend-requires t c κs = (c .before .before .before .before .before .before .before .before .pre .1 .0, c .before .before .before .before .before .before .before .before .pre .1 .1 .1 .fits)
 
 flatten-body-push-requires : (t : ℕ) → flatten-body-lts.Need-push-requires (flatten-body-calls t) (flatten-body-at t) flatten-body.Post
-flatten-body-push-requires t c κs = let room = c .before .before .before .before .before .before .before .before .before .before .before .before .pre .1 .0 in omega arith
+flatten-body-push-requires t c κs = let room = c .before .before .before .before .before .before .before .before .before .before .before .before .before .pre .1 .1 .0 in omega arith
 
 flatten-body-array-share-prefix-offsets : (t : ℕ) → flatten-body-lts.Need-array-share-prefix-offsets (flatten-body-calls t) (flatten-body-at t) flatten-body.Post
-flatten-body-array-share-prefix-offsets t c = let room = c .before .before .before .before .before .before .before .before .before .before .before .before .before .before .pre .1 .0 in let d = c .before .push .ensures .0 in let e = c .before .push .ensures .2 in omega arith
+flatten-body-array-share-prefix-offsets t c = let room = c .before .before .before .before .before .before .before .before .before .before .before .before .before .before .before .pre .1 .1 .0 in let d = c .before .push .ensures .0 in let e = c .before .push .ensures .2 in omega arith
 
 flatten-body-slice-aggregate-flatten-constraint : (t : ℕ) → flatten-body-lts.Need-slice-aggregate-flatten-constraint (flatten-body-calls t) (flatten-body-at t) flatten-body.Post
-flatten-body-slice-aggregate-flatten-constraint t c = push-count (c .before .before .before .before .before .before .before .before .before .before .before .before .before .before .before .args .path .now) _ _ _ (c .before .before .push .ensures)
+flatten-body-slice-aggregate-flatten-constraint t c = push-count (c .before .before .before .before .before .before .before .before .before .before .before .before .before .before .before .before .args .path .now) _ _ _ (c .before .before .push .ensures)
 
 flatten-body-flatten-constraint-requires : (t : ℕ) → flatten-body-lts.Need-flatten-constraint-requires (flatten-body-calls t) (flatten-body-at t) flatten-body.Post
-flatten-body-flatten-constraint-requires t c κs = let far = c .before .before .before .before .before .before .before .before .before .before .before .before .before .before .before .before .before .before .pre .0 in let room = c .before .before .before .before .before .before .before .before .before .before .before .before .before .before .before .before .before .before .pre .1 .0 in let l = push-length (c .before .before .before .before .before .before .before .before .before .before .before .before .before .before .before .before .before .before .args .path .now) _ _ _ (c .before .before .before .before .before .push .ensures) in (omega arith, (omega arith, keeps-pushed _ _ _ _ _ _ _ (c .before .before .before .before .before .push .ensures .1) (c .before .before .before .before .before .before .before .before .before .before .extend .ensures .keeps (c .before .before .before .before .before .before .before .before .before .before .before .before .before .before .before .before .before .before .args .path .now) (c .before .before .before .before .before .before .before .before .before .before .before .before .before .before .before .before .before .before .pre .1 .1))))
+flatten-body-flatten-constraint-requires t c κs = let far = c .before .before .before .before .before .before .before .before .before .before .before .before .before .before .before .before .before .before .before .pre .0 in let room = c .before .before .before .before .before .before .before .before .before .before .before .before .before .before .before .before .before .before .before .pre .1 .1 .0 in let l = push-length (c .before .before .before .before .before .before .before .before .before .before .before .before .before .before .before .before .before .before .before .args .path .now) _ _ _ (c .before .before .before .before .before .push .ensures) in (omega arith, (c .before .before .before .before .before .before .before .before .before .before .before .before .before .before .before .before .before .before .before .pre .1 .0, (omega arith, keeps-pushed _ _ _ _ _ _ _ (c .before .before .before .before .before .push .ensures .1) (c .before .before .before .before .before .before .before .before .before .before .extend .ensures .keeps (c .before .before .before .before .before .before .before .before .before .before .before .before .before .before .before .before .before .before .before .args .path .now) (c .before .before .before .before .before .before .before .before .before .before .before .before .before .before .before .before .before .before .before .pre .1 .1 .1)))))
 
 flatten-body-returns : (t : ℕ) → flatten-body-lts.Need-returns (flatten-body-calls t) (flatten-body-at t) flatten-body.Post
 flatten-body-returns t c = (body-puts _ _ _ _ _ _ _ _ _ (c .before .before .before .before .before .before .before .before .before .before .before .before .push .ensures .1) (c .before .before .before .before .before .before .flatten-constraint .ensures .0), stays-around _ _ _ _ _ _ _ _ _ _ _ (c .before .before .before .before .before .before .before .before .before .before .before .before .before .before .before .before .before .extend .ensures) (c .before .before .before .before .before .before .flatten-constraint .ensures .1))
@@ -150,13 +150,13 @@ flatten-constraint-returns : (t : ℕ) → flatten-constraint-lts.Need-returns (
 flatten-constraint-returns t c = (none-left _ _ _ _ _ _ _ _ _ (c .if1 .taken), stays-same _ _ _)
 
 flatten-constraint-flatten-head-requires : (t : ℕ) → flatten-constraint-lts.Need-flatten-head-requires (flatten-constraint-calls t) (flatten-constraint-at t) flatten-constraint.Post
-flatten-constraint-flatten-head-requires t c κs = c .before .before .before .before .before .before .before .before .before .before .before .before .before .pre .1 .1
+flatten-constraint-flatten-head-requires t c κs = (c .before .before .before .before .before .before .before .before .before .before .before .before .before .before .pre .1 .0, c .before .before .before .before .before .before .before .before .before .before .before .before .before .before .pre .1 .1 .1)
 
 flatten-constraint-flatten-members-requires : (t : ℕ) → flatten-constraint-lts.Need-flatten-members-requires (flatten-constraint-calls t) (flatten-constraint-at t) flatten-constraint.Post
-flatten-constraint-flatten-members-requires t c κs = let far = c .before .before .before .before .before .before .before .before .before .before .before .before .before .pre .0 in let room = c .before .before .before .before .before .before .before .before .before .before .before .before .before .pre .1 .0 in (omega arith, (omega arith, c .before .before .before .before .before .before .before .before .before .before .before .before .before .pre .1 .1))
+flatten-constraint-flatten-members-requires t c κs = let far = c .before .before .before .before .before .before .before .before .before .before .before .before .before .before .pre .0 in let room = c .before .before .before .before .before .before .before .before .before .before .before .before .before .before .pre .1 .1 .0 in (omega arith, (c .before .before .before .before .before .before .before .before .before .before .before .before .before .before .pre .1 .0, (omega arith, c .before .before .before .before .before .before .before .before .before .before .before .before .before .before .pre .1 .1 .1)))
 
 flatten-constraint-flatten-for-all-requires : (t : ℕ) → flatten-constraint-lts.Need-flatten-for-all-requires (flatten-constraint-calls t) (flatten-constraint-at t) flatten-constraint.Post
-flatten-constraint-flatten-for-all-requires t c κs = let far = c .before .before .before .before .before .before .before .before .before .before .before .before .before .pre .0 in let room = c .before .before .before .before .before .before .before .before .before .before .before .before .before .pre .1 .0 in (omega arith, (omega arith, c .before .before .before .before .before .before .before .before .before .before .before .before .before .pre .1 .1))
+flatten-constraint-flatten-for-all-requires t c κs = let far = c .before .before .before .before .before .before .before .before .before .before .before .before .before .before .pre .0 in let room = c .before .before .before .before .before .before .before .before .before .before .before .before .before .before .pre .1 .1 .0 in (omega arith, (c .before .before .before .before .before .before .before .before .before .before .before .before .before .before .pre .1 .0, (omega arith, c .before .before .before .before .before .before .before .before .before .before .before .before .before .before .pre .1 .1 .1)))
 
 flatten-constraint-returns-2 : (t : ℕ) → flatten-constraint-lts.Need-returns-2 (flatten-constraint-calls t) (flatten-constraint-at t) flatten-constraint.Post
 flatten-constraint-returns-2 t c = (node-pred _ _ _ _ _ _ _ _ _ _ (c .before .before .before .before .before .before .before .before .before .before .if1 .left) (c .before .before .before .before .before .before .before .before .before .read-constraint-node .ensures) _ (c .before .before .before .before .before .before .before .node .given .1) (c .before .before .flatten-head .ensures), stays-same _ _ _)
@@ -180,22 +180,22 @@ flatten-for-all-returns-3 : (t : ℕ) → flatten-for-all-lts.Need-returns-3 (fl
 flatten-for-all-returns-3 t c = (for-all-unheld _ _ _ _ _ _ _ _ _ _ (c .before .before .before .before .before .before .before .before .before .before .check-binder .ensures) _ _ (c .before .before .before .before .before .before .before .before .binder .given .1) _ (c .before .before .before .before .before .before .number-at .ensures) _ _ (c .before .before .before .before .number .given .1) _ (c .before .before .check-preds .ensures) _ (c .enum-told3 .given .1), stays-same _ _ _)
 
 flatten-for-all-flatten-body-requires : (t : ℕ) → flatten-for-all-lts.Need-flatten-body-requires (flatten-for-all-calls t) (flatten-for-all-at t) flatten-for-all.Post
-flatten-for-all-flatten-body-requires t c κs = let far = c .before .before .before .before .before .before .before .before .before .before .before .before .before .before .before .before .before .before .before .before .pre .0 in let room = c .before .before .before .before .before .before .before .before .before .before .before .before .before .before .before .before .before .before .before .before .pre .1 .0 in (omega arith, (room, c .before .before .before .before .before .before .before .before .before .before .before .before .before .before .before .before .before .before .before .before .pre .1 .1))
+flatten-for-all-flatten-body-requires t c κs = let far = c .before .before .before .before .before .before .before .before .before .before .before .before .before .before .before .before .before .before .before .before .before .pre .0 in let room = c .before .before .before .before .before .before .before .before .before .before .before .before .before .before .before .before .before .before .before .before .before .pre .1 .1 .0 in (omega arith, (c .before .before .before .before .before .before .before .before .before .before .before .before .before .before .before .before .before .before .before .before .before .pre .1 .0, (room, c .before .before .before .before .before .before .before .before .before .before .before .before .before .before .before .before .before .before .before .before .before .pre .1 .1 .1)))
 
 flatten-for-all-returns-4 : (t : ℕ) → flatten-for-all-lts.Need-returns-4 (flatten-for-all-calls t) (flatten-for-all-at t) flatten-for-all.Post
-flatten-for-all-returns-4 t c = let room = c .before .before .before .before .before .before .before .before .before .before .before .before .before .before .before .before .before .before .before .before .before .before .before .before .before .before .before .pre .1 .0 in (for-all-puts _ _ _ _ _ _ _ _ _ _ (c .before .before .before .before .before .before .before .before .before .before .before .before .before .before .before .before .before .before .before .before .before .check-binder .ensures) _ _ (c .before .before .before .before .before .before .before .before .before .before .before .before .before .before .before .before .before .before .before .binder .given .1) _ (c .before .before .before .before .before .before .before .before .before .before .before .before .before .before .before .before .before .number-at .ensures) _ _ (c .before .before .before .before .before .before .before .before .before .before .before .before .before .before .before .number .given .1) _ (c .before .before .before .before .before .before .before .before .before .before .before .before .before .check-preds .ensures) _ _ _ (omega arith) (c .before .before .before .before .before .before .before .before .before .before .before .preds .given .1) refl (c .before .before .before .before .before .before .flatten-body .ensures .0), c .before .before .before .before .before .before .flatten-body .ensures .1)
+flatten-for-all-returns-4 t c = let room = c .before .before .before .before .before .before .before .before .before .before .before .before .before .before .before .before .before .before .before .before .before .before .before .before .before .before .before .before .pre .1 .1 .0 in (for-all-puts _ _ _ _ _ _ _ _ _ _ (c .before .before .before .before .before .before .before .before .before .before .before .before .before .before .before .before .before .before .before .before .before .check-binder .ensures) _ _ (c .before .before .before .before .before .before .before .before .before .before .before .before .before .before .before .before .before .before .before .binder .given .1) _ (c .before .before .before .before .before .before .before .before .before .before .before .before .before .before .before .before .before .number-at .ensures) _ _ (c .before .before .before .before .before .before .before .before .before .before .before .before .before .before .before .number .given .1) _ (c .before .before .before .before .before .before .before .before .before .before .before .before .before .check-preds .ensures) _ _ _ (omega arith) (c .before .before .before .before .before .before .before .before .before .before .before .preds .given .1) refl (c .before .before .before .before .before .before .flatten-body .ensures .0), c .before .before .before .before .before .before .flatten-body .ensures .1)
 
 abbrev flatten-members-Inv-loop : flatten-members-lts.InvT-loop
-flatten-members-Inv-loop s at n levels path types range buf₀ vars₀ guards₀ kept q₀ left₀ progress₀ buf vars guards q left progress = Members (encoderIn s types) range (onPath s path) levels s n at (writing progress₀ buf₀) left q (writing progress buf) × Stays kept vars₀ guards₀ vars guards × (length buf ≡ length buf₀)
+flatten-members-Inv-loop s at n levels path enc range buf₀ vars₀ guards₀ kept q₀ left₀ progress₀ buf vars guards q left progress = Members (encoderIn s enc) range (onPath s path) levels s n at (writing progress₀ buf₀) left q (writing progress buf) × Stays kept vars₀ guards₀ vars guards × (length buf ≡ length buf₀)
 
 abbrev flatten-members-μ-loop : flatten-members-lts.MeasureT-loop
-flatten-members-μ-loop s at n levels path types range buf₀ vars₀ guards₀ kept q₀ left₀ progress₀ buf vars guards q left progress = left
+flatten-members-μ-loop s at n levels path enc range buf₀ vars₀ guards₀ kept q₀ left₀ progress₀ buf vars guards q left progress = left
 
 flatten-members-loop-holds : (t : ℕ) → flatten-members-lts.Need-loop-holds (flatten-members-calls t) (flatten-members-at t) flatten-members.Post flatten-members-Inv-loop flatten-members-μ-loop
 flatten-members-loop-holds t c = (members-start _ _ _ _ _ _ _ _, stays-same _ _ _, refl)
 
 flatten-members-flatten-constraint-requires : (t : ℕ) → flatten-members-lts.Need-flatten-constraint-requires (flatten-members-calls t) (flatten-members-at t) flatten-members.Post flatten-members-Inv-loop flatten-members-μ-loop
-flatten-members-flatten-constraint-requires t c κs = let far = c .before .before .before .before .before .before .before .before .before .before .pre .0 in let room = c .before .before .before .before .before .before .before .before .before .before .pre .1 .0 in (omega arith, (room, keeps-stays _ _ _ _ _ _ _ _ (c .before .before .before .before .before .before .before .before .before .before .pre .1 .1) (c .before .before .before .before .loop .inv .1)))
+flatten-members-flatten-constraint-requires t c κs = let far = c .before .before .before .before .before .before .before .before .before .before .before .pre .0 in let room = c .before .before .before .before .before .before .before .before .before .before .before .pre .1 .1 .0 in (omega arith, (c .before .before .before .before .before .before .before .before .before .before .before .pre .1 .0, (room, keeps-stays _ _ _ _ _ _ _ _ (c .before .before .before .before .before .before .before .before .before .before .before .pre .1 .1 .1) (c .before .before .before .before .loop .inv .1))))
 
 flatten-members-loop-again : (t : ℕ) → flatten-members-lts.Need-loop-again (flatten-members-calls t) (flatten-members-at t) flatten-members.Post flatten-members-Inv-loop flatten-members-μ-loop
 flatten-members-loop-again t c = (members-more _ _ _ _ _ _ _ _ _ _ _ _ _ (c .before .before .before .before .before .before .before .before .before .before .before .loop-test .taken) (c .before .before .before .before .before .before .before .before .before .before .before .before .loop .inv .0) (c .before .before .before .before .before .before .before .flatten-constraint .ensures .0), stays-then _ _ _ _ _ _ _ (c .before .before .before .before .before .before .before .before .before .before .before .before .loop .inv .1) (c .before .before .before .before .before .before .before .flatten-constraint .ensures .1), search needs)

@@ -34,7 +34,7 @@ same-length : tie.Need-same-length
 same-length c = search needs
 
 returns : tie.Need-returns
-returns c = assert-in _ _ _ _ _ _ _ _ _ _ _ _ (sym (c .before .before .before .before .before .before .before .before .before .has .ensures) ∙ c .before .before .before .before .before .before .before .before .if1 .taken) (c .before .before .before .before .before .before .before .least .ensures) (c .before .before .before .before .before .before .new .ensures) (let g = c .before .before .before .before .before .before .before .before .before .before .before .before .before .before .before .good in omega arith) (c .before .before .before .before .write-assert .ensures) (c .placed .ensures)
+returns c = assert-in _ _ _ _ _ _ _ _ _ _ _ _ (sym (c .before .before .before .before .before .before .before .before .before .has .ensures) ∙ c .before .before .before .before .before .before .before .before .if1 .taken) (c .before .before .before .before .before .before .before .least .ensures) (c .before .before .before .before .before .before .new .ensures) (let g = c .before .before .before .before .before .before .before .before .before .before .before .before .before .before .before .before .good in omega arith) (c .before .before .before .before .write-assert .ensures) (c .placed .ensures)
 
 check-pred-requires : tie.Need-check-pred-requires
 check-pred-requires c κs = search needs

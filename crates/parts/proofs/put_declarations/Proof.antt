@@ -20,7 +20,7 @@ same-length : tie.Need-same-length
 same-length c = search needs
 
 returns : tie.Need-returns
-returns c = declarations-put (c .before .before .before .before .before .before .before .before .before .before .before .before .before .before .before .before .before .before .args .file .now) (c .before .before .before .before .before .before .before .before .before .before .before .before .before .before .before .before .before .before .args .b) _ _ _ _ _ _ (c .before .before .before .before .before .before .before .before .before .before .before .before .before .before .put-items .ensures) (c .before .before .before .before .before .before .before .before .before .before .put-items2 .ensures) (c .before .before .before .before .before .before .put-items3 .ensures) (c .before .before .put-items4 .ensures)
+returns c = declarations-put (c .before .before .before .before .before .before .before .before .before .before .before .before .before .before .before .before .before .before .before .args .file .now) (c .before .before .before .before .before .before .before .before .before .before .before .before .before .before .before .before .before .before .before .args .enc .now) (c .before .before .before .before .before .before .before .before .before .before .before .before .before .before .before .before .before .before .before .args .b) _ _ _ _ _ _ (c .before .before .before .before .before .before .before .before .before .before .before .before .before .before .put-items .ensures) (c .before .before .before .before .before .before .before .before .before .before .put-items2 .ensures) (c .before .before .before .before .before .before .put-items3 .ensures) (c .before .before .put-items4 .ensures)
 
 pub put-declarations-spec : {M : Type 1} → statement M
 put-declarations-spec =

@@ -6,7 +6,7 @@ use lib.ListN.{length}
 use Rattle.task.specs.Decode.{comment}
 use Rattle.task.proofs.Pieces.{each-covers}
 use Rattle.output.specs.Emit.{output, Sends}
-use Rattle.flatten.proofs.Sections.{Over, over-start, over-more, over-stuck, over-end}
+use Rattle.task.proofs.Sections.{Over, over-start, over-more, over-stuck, over-end}
 use Rattle.parts.proofs.Placing.{comment-steps}
 use Rattle.parts.proofs.write_comments.Statement.{statement}
 use Rattle.parts.proofs.write_comments.Tie as tie

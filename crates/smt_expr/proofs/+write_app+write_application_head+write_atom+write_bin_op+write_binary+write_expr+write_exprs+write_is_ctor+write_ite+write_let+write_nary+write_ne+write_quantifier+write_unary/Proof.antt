@@ -83,183 +83,183 @@ use Rattle.smt_expr.proofs.+write_app+write_application_head+write_atom
   close,
 }
 
-abbrev μ-write-app : Measures 2 write-app-kinds.ps ℕ
+abbrev μ-write-app : Measures 3 write-app-kinds.ps ℕ
 μ-write-app κs a = 6 * a .1 .1 .1 .0 + 2
 
-abbrev μ-write-application-head : Measures 2 write-application-head-kinds.ps ℕ
+abbrev μ-write-application-head : Measures 3 write-application-head-kinds.ps ℕ
 μ-write-application-head κs a = 6 * a .1 .1 .1 .1 .0 + 1
 
-abbrev μ-write-atom : Measures 2 write-atom-kinds.ps ℕ
+abbrev μ-write-atom : Measures 3 write-atom-kinds.ps ℕ
 μ-write-atom κs a = 6 * a .1 .1 .1 .0 + 3
 
-abbrev μ-write-bin-op : Measures 2 write-bin-op-kinds.ps ℕ
+abbrev μ-write-bin-op : Measures 3 write-bin-op-kinds.ps ℕ
 μ-write-bin-op κs a = 6 * a .1 .1 .1 .0 + 2
 
-abbrev μ-write-binary : Measures 3 write-binary-kinds.ps ℕ
+abbrev μ-write-binary : Measures 4 write-binary-kinds.ps ℕ
 μ-write-binary κs a = 6 * a .1 .1 .1 .0 + 1
 
-abbrev μ-write-expr : Measures 2 write-expr-kinds.ps ℕ
+abbrev μ-write-expr : Measures 3 write-expr-kinds.ps ℕ
 μ-write-expr κs a = 6 * a .1 .1 .0
 
-abbrev μ-write-exprs : Measures 2 write-exprs-kinds.ps ℕ
+abbrev μ-write-exprs : Measures 3 write-exprs-kinds.ps ℕ
 μ-write-exprs κs a = 6 * a .1 .1 .1 .0 + 1
 
-abbrev μ-write-is-ctor : Measures 2 write-is-ctor-kinds.ps ℕ
+abbrev μ-write-is-ctor : Measures 3 write-is-ctor-kinds.ps ℕ
 μ-write-is-ctor κs a = 6 * a .1 .1 .1 .0 + 1
 
-abbrev μ-write-ite : Measures 2 write-ite-kinds.ps ℕ
+abbrev μ-write-ite : Measures 3 write-ite-kinds.ps ℕ
 μ-write-ite κs a = 6 * a .1 .1 .0 + 1
 
-abbrev μ-write-let : Measures 2 write-let-kinds.ps ℕ
+abbrev μ-write-let : Measures 3 write-let-kinds.ps ℕ
 μ-write-let κs a = 6 * a .1 .1 .1 .0 + 1
 
-abbrev μ-write-nary : Measures 4 write-nary-kinds.ps ℕ
+abbrev μ-write-nary : Measures 5 write-nary-kinds.ps ℕ
 μ-write-nary κs a = 6 * a .1 .1 .1 .1 .1 .0 + 2
 
-abbrev μ-write-ne : Measures 2 write-ne-kinds.ps ℕ
+abbrev μ-write-ne : Measures 3 write-ne-kinds.ps ℕ
 μ-write-ne κs a = 6 * a .1 .1 .0 + 2
 
-abbrev μ-write-quantifier : Measures 2 write-quantifier-kinds.ps ℕ
+abbrev μ-write-quantifier : Measures 3 write-quantifier-kinds.ps ℕ
 μ-write-quantifier κs a = 6 * a .1 .1 .1 .1 .0 + 1
 
-abbrev μ-write-unary : Measures 3 write-unary-kinds.ps ℕ
+abbrev μ-write-unary : Measures 4 write-unary-kinds.ps ℕ
 μ-write-unary κs a = 6 * a .1 .1 .1 .0 + 1
 
-abbrev write-app-at : ℕ → In 2 write-app-kinds.ps
-write-app-at t = and 2 write-app-kinds.ps (is 2 write-app-kinds.ps μ-write-app t) write-app.Pre
+abbrev write-app-at : ℕ → In 3 write-app-kinds.ps
+write-app-at t = and 3 write-app-kinds.ps (is 3 write-app-kinds.ps μ-write-app t) write-app.Pre
 
-abbrev write-app-below : ℕ → In 2 write-app-kinds.ps
+abbrev write-app-below : ℕ → In 3 write-app-kinds.ps
 write-app-below t =
-    and 2 write-app-kinds.ps (falls 2 write-app-kinds.ps _<_ μ-write-app t) write-app.Pre
+    and 3 write-app-kinds.ps (falls 3 write-app-kinds.ps _<_ μ-write-app t) write-app.Pre
 
-abbrev write-application-head-at : ℕ → In 2 write-application-head-kinds.ps
+abbrev write-application-head-at : ℕ → In 3 write-application-head-kinds.ps
 write-application-head-at t =
     and
-    2
+    3
     write-application-head-kinds.ps
-    (is 2 write-application-head-kinds.ps μ-write-application-head t)
+    (is 3 write-application-head-kinds.ps μ-write-application-head t)
     write-application-head.Pre
 
-abbrev write-application-head-below : ℕ → In 2 write-application-head-kinds.ps
+abbrev write-application-head-below : ℕ → In 3 write-application-head-kinds.ps
 write-application-head-below t =
     and
-    2
+    3
     write-application-head-kinds.ps
-    (falls 2 write-application-head-kinds.ps _<_ μ-write-application-head t)
+    (falls 3 write-application-head-kinds.ps _<_ μ-write-application-head t)
     write-application-head.Pre
 
-abbrev write-atom-at : ℕ → In 2 write-atom-kinds.ps
+abbrev write-atom-at : ℕ → In 3 write-atom-kinds.ps
 write-atom-at t =
-    and 2 write-atom-kinds.ps (is 2 write-atom-kinds.ps μ-write-atom t) write-atom.Pre
+    and 3 write-atom-kinds.ps (is 3 write-atom-kinds.ps μ-write-atom t) write-atom.Pre
 
-abbrev write-atom-below : ℕ → In 2 write-atom-kinds.ps
+abbrev write-atom-below : ℕ → In 3 write-atom-kinds.ps
 write-atom-below t =
-    and 2 write-atom-kinds.ps (falls 2 write-atom-kinds.ps _<_ μ-write-atom t) write-atom.Pre
+    and 3 write-atom-kinds.ps (falls 3 write-atom-kinds.ps _<_ μ-write-atom t) write-atom.Pre
 
-abbrev write-bin-op-at : ℕ → In 2 write-bin-op-kinds.ps
+abbrev write-bin-op-at : ℕ → In 3 write-bin-op-kinds.ps
 write-bin-op-at t =
-    and 2 write-bin-op-kinds.ps (is 2 write-bin-op-kinds.ps μ-write-bin-op t) write-bin-op.Pre
+    and 3 write-bin-op-kinds.ps (is 3 write-bin-op-kinds.ps μ-write-bin-op t) write-bin-op.Pre
 
-abbrev write-bin-op-below : ℕ → In 2 write-bin-op-kinds.ps
+abbrev write-bin-op-below : ℕ → In 3 write-bin-op-kinds.ps
 write-bin-op-below t =
     and
-    2
+    3
     write-bin-op-kinds.ps
-    (falls 2 write-bin-op-kinds.ps _<_ μ-write-bin-op t)
+    (falls 3 write-bin-op-kinds.ps _<_ μ-write-bin-op t)
     write-bin-op.Pre
 
-abbrev write-binary-at : ℕ → In 3 write-binary-kinds.ps
+abbrev write-binary-at : ℕ → In 4 write-binary-kinds.ps
 write-binary-at t =
-    and 3 write-binary-kinds.ps (is 3 write-binary-kinds.ps μ-write-binary t) write-binary.Pre
+    and 4 write-binary-kinds.ps (is 4 write-binary-kinds.ps μ-write-binary t) write-binary.Pre
 
-abbrev write-binary-below : ℕ → In 3 write-binary-kinds.ps
+abbrev write-binary-below : ℕ → In 4 write-binary-kinds.ps
 write-binary-below t =
     and
-    3
+    4
     write-binary-kinds.ps
-    (falls 3 write-binary-kinds.ps _<_ μ-write-binary t)
+    (falls 4 write-binary-kinds.ps _<_ μ-write-binary t)
     write-binary.Pre
 
-abbrev write-expr-at : ℕ → In 2 write-expr-kinds.ps
+abbrev write-expr-at : ℕ → In 3 write-expr-kinds.ps
 write-expr-at t =
-    and 2 write-expr-kinds.ps (is 2 write-expr-kinds.ps μ-write-expr t) write-expr.Pre
+    and 3 write-expr-kinds.ps (is 3 write-expr-kinds.ps μ-write-expr t) write-expr.Pre
 
-abbrev write-expr-below : ℕ → In 2 write-expr-kinds.ps
+abbrev write-expr-below : ℕ → In 3 write-expr-kinds.ps
 write-expr-below t =
-    and 2 write-expr-kinds.ps (falls 2 write-expr-kinds.ps _<_ μ-write-expr t) write-expr.Pre
+    and 3 write-expr-kinds.ps (falls 3 write-expr-kinds.ps _<_ μ-write-expr t) write-expr.Pre
 
-abbrev write-exprs-at : ℕ → In 2 write-exprs-kinds.ps
+abbrev write-exprs-at : ℕ → In 3 write-exprs-kinds.ps
 write-exprs-at t =
-    and 2 write-exprs-kinds.ps (is 2 write-exprs-kinds.ps μ-write-exprs t) write-exprs.Pre
+    and 3 write-exprs-kinds.ps (is 3 write-exprs-kinds.ps μ-write-exprs t) write-exprs.Pre
 
-abbrev write-exprs-below : ℕ → In 2 write-exprs-kinds.ps
+abbrev write-exprs-below : ℕ → In 3 write-exprs-kinds.ps
 write-exprs-below t =
-    and 2 write-exprs-kinds.ps (falls 2 write-exprs-kinds.ps _<_ μ-write-exprs t) write-exprs.Pre
+    and 3 write-exprs-kinds.ps (falls 3 write-exprs-kinds.ps _<_ μ-write-exprs t) write-exprs.Pre
 
-abbrev write-is-ctor-at : ℕ → In 2 write-is-ctor-kinds.ps
+abbrev write-is-ctor-at : ℕ → In 3 write-is-ctor-kinds.ps
 write-is-ctor-at t =
-    and 2 write-is-ctor-kinds.ps (is 2 write-is-ctor-kinds.ps μ-write-is-ctor t) write-is-ctor.Pre
+    and 3 write-is-ctor-kinds.ps (is 3 write-is-ctor-kinds.ps μ-write-is-ctor t) write-is-ctor.Pre
 
-abbrev write-is-ctor-below : ℕ → In 2 write-is-ctor-kinds.ps
+abbrev write-is-ctor-below : ℕ → In 3 write-is-ctor-kinds.ps
 write-is-ctor-below t =
     and
-    2
+    3
     write-is-ctor-kinds.ps
-    (falls 2 write-is-ctor-kinds.ps _<_ μ-write-is-ctor t)
+    (falls 3 write-is-ctor-kinds.ps _<_ μ-write-is-ctor t)
     write-is-ctor.Pre
 
-abbrev write-ite-at : ℕ → In 2 write-ite-kinds.ps
-write-ite-at t = and 2 write-ite-kinds.ps (is 2 write-ite-kinds.ps μ-write-ite t) write-ite.Pre
+abbrev write-ite-at : ℕ → In 3 write-ite-kinds.ps
+write-ite-at t = and 3 write-ite-kinds.ps (is 3 write-ite-kinds.ps μ-write-ite t) write-ite.Pre
 
-abbrev write-ite-below : ℕ → In 2 write-ite-kinds.ps
+abbrev write-ite-below : ℕ → In 3 write-ite-kinds.ps
 write-ite-below t =
-    and 2 write-ite-kinds.ps (falls 2 write-ite-kinds.ps _<_ μ-write-ite t) write-ite.Pre
+    and 3 write-ite-kinds.ps (falls 3 write-ite-kinds.ps _<_ μ-write-ite t) write-ite.Pre
 
-abbrev write-let-at : ℕ → In 2 write-let-kinds.ps
-write-let-at t = and 2 write-let-kinds.ps (is 2 write-let-kinds.ps μ-write-let t) write-let.Pre
+abbrev write-let-at : ℕ → In 3 write-let-kinds.ps
+write-let-at t = and 3 write-let-kinds.ps (is 3 write-let-kinds.ps μ-write-let t) write-let.Pre
 
-abbrev write-let-below : ℕ → In 2 write-let-kinds.ps
+abbrev write-let-below : ℕ → In 3 write-let-kinds.ps
 write-let-below t =
-    and 2 write-let-kinds.ps (falls 2 write-let-kinds.ps _<_ μ-write-let t) write-let.Pre
+    and 3 write-let-kinds.ps (falls 3 write-let-kinds.ps _<_ μ-write-let t) write-let.Pre
 
-abbrev write-nary-at : ℕ → In 4 write-nary-kinds.ps
+abbrev write-nary-at : ℕ → In 5 write-nary-kinds.ps
 write-nary-at t =
-    and 4 write-nary-kinds.ps (is 4 write-nary-kinds.ps μ-write-nary t) write-nary.Pre
+    and 5 write-nary-kinds.ps (is 5 write-nary-kinds.ps μ-write-nary t) write-nary.Pre
 
-abbrev write-nary-below : ℕ → In 4 write-nary-kinds.ps
+abbrev write-nary-below : ℕ → In 5 write-nary-kinds.ps
 write-nary-below t =
-    and 4 write-nary-kinds.ps (falls 4 write-nary-kinds.ps _<_ μ-write-nary t) write-nary.Pre
+    and 5 write-nary-kinds.ps (falls 5 write-nary-kinds.ps _<_ μ-write-nary t) write-nary.Pre
 
-abbrev write-ne-at : ℕ → In 2 write-ne-kinds.ps
-write-ne-at t = and 2 write-ne-kinds.ps (is 2 write-ne-kinds.ps μ-write-ne t) write-ne.Pre
+abbrev write-ne-at : ℕ → In 3 write-ne-kinds.ps
+write-ne-at t = and 3 write-ne-kinds.ps (is 3 write-ne-kinds.ps μ-write-ne t) write-ne.Pre
 
-abbrev write-ne-below : ℕ → In 2 write-ne-kinds.ps
+abbrev write-ne-below : ℕ → In 3 write-ne-kinds.ps
 write-ne-below t =
-    and 2 write-ne-kinds.ps (falls 2 write-ne-kinds.ps _<_ μ-write-ne t) write-ne.Pre
+    and 3 write-ne-kinds.ps (falls 3 write-ne-kinds.ps _<_ μ-write-ne t) write-ne.Pre
 
-abbrev write-quantifier-at : ℕ → In 2 write-quantifier-kinds.ps
+abbrev write-quantifier-at : ℕ → In 3 write-quantifier-kinds.ps
 write-quantifier-at t =
     and
-    2
+    3
     write-quantifier-kinds.ps
-    (is 2 write-quantifier-kinds.ps μ-write-quantifier t)
+    (is 3 write-quantifier-kinds.ps μ-write-quantifier t)
     write-quantifier.Pre
 
-abbrev write-quantifier-below : ℕ → In 2 write-quantifier-kinds.ps
+abbrev write-quantifier-below : ℕ → In 3 write-quantifier-kinds.ps
 write-quantifier-below t =
     and
-    2
+    3
     write-quantifier-kinds.ps
-    (falls 2 write-quantifier-kinds.ps _<_ μ-write-quantifier t)
+    (falls 3 write-quantifier-kinds.ps _<_ μ-write-quantifier t)
     write-quantifier.Pre
 
-abbrev write-unary-at : ℕ → In 3 write-unary-kinds.ps
+abbrev write-unary-at : ℕ → In 4 write-unary-kinds.ps
 write-unary-at t =
-    and 3 write-unary-kinds.ps (is 3 write-unary-kinds.ps μ-write-unary t) write-unary.Pre
+    and 4 write-unary-kinds.ps (is 4 write-unary-kinds.ps μ-write-unary t) write-unary.Pre
 
-abbrev write-unary-below : ℕ → In 3 write-unary-kinds.ps
+abbrev write-unary-below : ℕ → In 4 write-unary-kinds.ps
 write-unary-below t =
-    and 3 write-unary-kinds.ps (falls 3 write-unary-kinds.ps _<_ μ-write-unary t) write-unary.Pre
+    and 4 write-unary-kinds.ps (falls 4 write-unary-kinds.ps _<_ μ-write-unary t) write-unary.Pre
 
 -- what the calls in it ask and give
 abbrev write-app-calls : ℕ → write-app-lts.Claims
@@ -330,7 +330,7 @@ write-app-returns-4 : (t : ℕ) → write-app-lts.Need-returns-4 (write-app-call
 write-app-returns-4 t c = bare-sends _ _ _ _ _ _ _ (c .before .before .before .before .before .before .before .before .before .before .before .before .before .before .before .before .before .check-given .ensures) _ _ _ (c .before .before .before .before .before .before .before .before .before .before .before .before .before .before .before .sort .given .1) (c .before .before .before .before .before .before .before .before .before .before .before .before .before .check-expr .ensures) _ _ _ (c .before .before .before .before .before .before .before .before .before .before .before .skipped .given .1) (c .before .before .before .before .before .before .before .before .before .number-at .ensures) _ _ (c .before .before .before .before .before .before .before .count .given .1) _ _ (c .before .before .before .before .before .if1 .taken) (c .before .before .before .write-application-head .ensures)
 
 write-app-write-exprs-requires : (t : ℕ) → write-app-lts.Need-write-exprs-requires (write-app-calls t) (write-app-at t) write-app.Post
-write-app-write-exprs-requires t c κs = let far = c .before .before .before .before .before .before .before .before .before .before .before .before .before .before .before .before .before .before .before .before .before .before .before .before .before .pre in search needs
+write-app-write-exprs-requires t c κs = let far = c .before .before .before .before .before .before .before .before .before .before .before .before .before .before .before .before .before .before .before .before .before .before .before .before .before .before .pre in search needs
 
 write-app-returns-5 : (t : ℕ) → write-app-lts.Need-returns-5 (write-app-calls t) (write-app-at t) write-app.Post
 write-app-returns-5 t c = app-sends _ _ _ _ _ _ _ (c .before .before .before .before .before .before .before .before .before .before .before .before .before .before .before .before .before .before .before .before .before .before .before .before .before .before .before .before .before .before .check-given .ensures) _ _ _ (c .before .before .before .before .before .before .before .before .before .before .before .before .before .before .before .before .before .before .before .before .before .before .before .before .before .before .before .before .sort .given .1) (c .before .before .before .before .before .before .before .before .before .before .before .before .before .before .before .before .before .before .before .before .before .before .before .before .before .before .check-expr .ensures) _ _ _ (c .before .before .before .before .before .before .before .before .before .before .before .before .before .before .before .before .before .before .before .before .before .before .before .before .skipped .given .1) (c .before .before .before .before .before .before .before .before .before .before .before .before .before .before .before .before .before .before .before .before .before .before .number-at .ensures) _ _ (c .before .before .before .before .before .before .before .before .before .before .before .before .before .before .before .before .before .before .before .before .count .given .1) _ _ _ _ _ _ (c .before .before .before .before .before .before .before .before .before .before .before .before .before .before .before .before .before .before .if1 .left) (c .before .before .before .before .before .before .before .before .before .before .before .before .before .before .before .before .byte .ensures) (c .before .before .before .before .before .before .before .before .before .before .before .before .write-application-head2 .ensures) (c .before .before .before .before .before .before .before .write-exprs .ensures) (c .before .before .byte2 .ensures)
@@ -339,7 +339,7 @@ write-application-head-returns : (t : ℕ) → write-application-head-lts.Need-r
 write-application-head-returns t c = as-sends _ _ _ _ _ _ _ _ _ _ _ _ _ _ _ (c .before .before .before .before .before .before .before .before .before .before .before .before .before .before .before .before .before .before .before .before .before .before .before .before .before .if1 .taken) (c .before .before .before .before .before .before .before .before .before .before .before .before .before .before .before .before .before .before .before .before .before .before .before .before .is-qualified .ensures) (c .before .before .before .before .before .before .before .before .before .before .before .before .before .before .before .before .before .before .before .before .before .before .before .if2 .taken) (c .before .before .before .before .before .before .before .before .before .before .before .before .before .before .before .before .before .before .before .before .bytes .ensures) (c .before .before .before .before .before .before .before .before .before .before .before .before .before .before .before .before .write-expr .ensures) (c .before .before .before .before .before .before .before .before .before .before .before .byte .ensures) (c .before .before .before .before .before .before .before .write-sort .ensures) (c .before .before .byte2 .ensures)
 
 write-application-head-returns-2 : (t : ℕ) → write-application-head-lts.Need-returns-2 (write-application-head-calls t) (write-application-head-at t) write-application-head.Post
-write-application-head-returns-2 t c = unqualified-sends _ _ _ (c .before .before .before .before .before .before .before .before .before .args .from) _ (c .before .before .before .before .before .before .before .before .before .args .has) _ _ _ _ (c .before .before .before .before .before .is-qualified .ensures) (c .before .before .before .before .if2 .left) (c .before .before .write-expr2 .ensures)
+write-application-head-returns-2 t c = unqualified-sends _ _ _ (c .before .before .before .before .before .before .before .before .before .before .args .from) _ (c .before .before .before .before .before .before .before .before .before .before .args .has) _ _ _ _ (c .before .before .before .before .before .is-qualified .ensures) (c .before .before .before .before .if2 .left) (c .before .before .write-expr2 .ensures)
 
 write-application-head-returns-3 : (t : ℕ) → write-application-head-lts.Need-returns-3 (write-application-head-calls t) (write-application-head-at t) write-application-head.Post
 write-application-head-returns-3 t c = unsorted-sends _ _ _ _ _ _ _ _ _ (c .before .before .before .before .if1 .left) (c .before .before .write-expr3 .ensures)
@@ -383,7 +383,7 @@ write-bin-op-returns-5 : (t : ℕ) → write-bin-op-lts.Need-returns-5 (write-bi
 write-bin-op-returns-5 t c = op-is _ _ _ _ _ _ _ _ _ (c .before .before .before .before .before .enum-told5 .given .1) (c .before .before .write-binary5 .ensures)
 
 write-binary-write-expr-requires-2 : (t : ℕ) → write-binary-lts.Need-write-expr-requires-2 (write-binary-calls t) (write-binary-at t) write-binary.Post
-write-binary-write-expr-requires-2 t c κs = let far = c .before .before .before .before .before .before .before .before .before .before .before .before .before .before .before .before .before .before .before .before .before .before .before .before .before .pre in search needs
+write-binary-write-expr-requires-2 t c κs = let far = c .before .before .before .before .before .before .before .before .before .before .before .before .before .before .before .before .before .before .before .before .before .before .before .before .before .before .pre in search needs
 
 write-binary-same-length : (t : ℕ) → write-binary-lts.Need-same-length (write-binary-calls t) (write-binary-at t) write-binary.Post
 write-binary-same-length t c = let k1 = c .before .before .before .before .before .before .before .before .before .before .before .before .before .before .before .before .before .before .before .before .before .before .before .before .before .before .before .before .byte .kept in let k2 = c .before .before .before .before .before .before .before .before .before .before .before .before .before .before .before .before .before .before .before .before .before .before .before .before .bytes .kept in let k3 = c .before .before .before .before .before .before .before .before .before .before .before .before .before .before .before .before .before .before .before .before .byte2 .kept in search needs
@@ -477,10 +477,10 @@ write-expr-returns-23 : (t : ℕ) → write-expr-lts.Need-returns-23 (write-expr
 write-expr-returns-23 t c = expr-arm _ _ _ _ _ _ _ _ _ (c .before .before .before .if1 .left) (c .before .before .read-expr-node .ensures) (c .enum-told .given .1) (refused-sends _ _ _ _ _ _)
 
 abbrev write-exprs-Inv-loop : write-exprs-lts.InvT-loop
-write-exprs-Inv-loop s at n levels types buf₀ p₀ left₀ sent₀ buf p left sent = Owes (exprs-row (encoderIn s types)) (decExpr levels) s n at (output buf₀ (sent₀ .len)) left p (output buf (sent .len)) × (length buf ≡ length buf₀)
+write-exprs-Inv-loop s at n levels enc buf₀ p₀ left₀ sent₀ buf p left sent = Owes (exprs-row (encoderIn s enc)) (decExpr levels) s n at (output buf₀ (sent₀ .len)) left p (output buf (sent .len)) × (length buf ≡ length buf₀)
 
 abbrev write-exprs-μ-loop : write-exprs-lts.MeasureT-loop
-write-exprs-μ-loop s at n levels types buf₀ p₀ left₀ sent₀ buf p left sent = left
+write-exprs-μ-loop s at n levels enc buf₀ p₀ left₀ sent₀ buf p left sent = left
 
 write-exprs-loop-holds : (t : ℕ) → write-exprs-lts.Need-loop-holds (write-exprs-calls t) (write-exprs-at t) write-exprs.Post write-exprs-Inv-loop write-exprs-μ-loop
 write-exprs-loop-holds t c = (owes-start _ _ _ _ _ _, refl)
@@ -499,10 +499,10 @@ write-is-ctor-returns : (t : ℕ) → write-is-ctor-lts.Need-returns (write-is-c
 write-is-ctor-returns t c = is-ctor-sends _ _ _ _ _ _ _ _ _ _ _ _ (c .before .before .before .before .before .before .before .before .before .before .before .before .before .before .before .before .before .before .before .before .bytes .ensures) (c .before .before .before .before .before .before .before .before .before .before .before .before .before .before .before .before .name .ensures) (c .before .before .before .before .before .before .before .before .before .before .before .bytes2 .ensures) (c .before .before .before .before .before .before .before .write-expr .ensures) (c .before .before .byte .ensures)
 
 write-ite-write-expr-requires-2 : (t : ℕ) → write-ite-lts.Need-write-expr-requires-2 (write-ite-calls t) (write-ite-at t) write-ite.Post
-write-ite-write-expr-requires-2 t c κs = let far = c .before .before .before .before .before .before .before .before .before .before .before .before .before .before .before .before .before .pre in search needs
+write-ite-write-expr-requires-2 t c κs = let far = c .before .before .before .before .before .before .before .before .before .before .before .before .before .before .before .before .before .before .pre in search needs
 
 write-ite-write-expr-requires-3 : (t : ℕ) → write-ite-lts.Need-write-expr-requires-3 (write-ite-calls t) (write-ite-at t) write-ite.Post
-write-ite-write-expr-requires-3 t c κs = let far = c .before .before .before .before .before .before .before .before .before .before .before .before .before .before .before .before .before .before .before .before .before .before .before .before .before .before .pre in search needs
+write-ite-write-expr-requires-3 t c κs = let far = c .before .before .before .before .before .before .before .before .before .before .before .before .before .before .before .before .before .before .before .before .before .before .before .before .before .before .before .pre in search needs
 
 write-ite-same-length : (t : ℕ) → write-ite-lts.Need-same-length (write-ite-calls t) (write-ite-at t) write-ite.Post
 write-ite-same-length t c = let k1 = c .before .before .before .before .before .before .before .before .before .before .before .before .before .before .before .before .before .before .before .before .before .before .before .before .before .before .before .before .before .bytes .kept in let k2 = c .before .before .before .before .before .before .before .before .before .before .before .before .before .before .before .before .before .before .before .before .before .before .before .before .before .write-expr .kept in let k3 = c .before .before .before .before .before .before .before .before .before .before .before .before .before .before .before .before .before .before .before .before .byte .kept in search needs
@@ -511,7 +511,7 @@ write-ite-returns : (t : ℕ) → write-ite-lts.Need-returns (write-ite-calls t)
 write-ite-returns t c = ite-sends _ _ _ _ _ _ _ _ _ _ _ _ _ _ _ (c .before .before .before .before .before .before .before .before .before .before .before .before .before .before .before .before .before .before .before .before .before .before .before .before .before .before .before .before .before .bytes .ensures) (c .before .before .before .before .before .before .before .before .before .before .before .before .before .before .before .before .before .before .before .before .before .before .before .before .before .write-expr .ensures) (c .before .before .before .before .before .before .before .before .before .before .before .before .before .before .before .before .before .before .before .before .byte .ensures) (c .before .before .before .before .before .before .before .before .before .before .before .before .before .before .before .before .write-expr2 .ensures) (c .before .before .before .before .before .before .before .before .before .before .before .byte2 .ensures) (c .before .before .before .before .before .before .before .write-expr3 .ensures) (c .before .before .byte3 .ensures)
 
 write-let-write-expr-requires-2 : (t : ℕ) → write-let-lts.Need-write-expr-requires-2 (write-let-calls t) (write-let-at t) write-let.Post
-write-let-write-expr-requires-2 t c κs = let far = c .before .before .before .before .before .before .before .before .before .before .before .before .before .before .before .before .before .before .before .before .before .before .before .before .before .before .pre in search needs
+write-let-write-expr-requires-2 t c κs = let far = c .before .before .before .before .before .before .before .before .before .before .before .before .before .before .before .before .before .before .before .before .before .before .before .before .before .before .before .pre in search needs
 
 write-let-same-length : (t : ℕ) → write-let-lts.Need-same-length (write-let-calls t) (write-let-at t) write-let.Post
 write-let-same-length t c = let k1 = c .before .before .before .before .before .before .before .before .before .before .before .before .before .before .before .before .before .before .before .before .before .before .before .before .before .before .before .before .before .bytes .kept in let k2 = c .before .before .before .before .before .before .before .before .before .before .before .before .before .before .before .before .before .before .before .before .before .before .before .before .before .name .kept in let k3 = c .before .before .before .before .before .before .before .before .before .before .before .before .before .before .before .before .before .before .before .before .before .byte .kept in search needs
@@ -521,17 +521,17 @@ write-let-returns t c = let-sends _ _ _ _ _ _ _ _ _ _ _ _ _ _ _ (c .before .befo
 
 write-nary-returns : (t : ℕ) → write-nary-lts.Need-returns (write-nary-calls t) (write-nary-at t) write-nary.Post
 unfolding naryText
-write-nary-returns t c = row-none (exprs-row _) (decExpr (c .before .before .before .before .before .before .before .before .before .args .levels)) (c .before .before .before .before .before .before .before .before .before .args .s .now) (λ ws. write-nary (c .before .before .before .before .before .before .before .before .before .args .op .now) ws (c .before .before .before .before .before .before .before .before .before .args .empty .now)) (c .before .before .before .before .before .before .before .before .before .args .n) (c .before .before .before .before .before .before .before .before .before .args .at) _ _ _ (c .before .before .before .before .if1 .taken) (c .before .before .write-word .ensures)
+write-nary-returns t c = row-none (exprs-row _) (decExpr (c .before .before .before .before .before .before .before .before .before .before .args .levels)) (c .before .before .before .before .before .before .before .before .before .before .args .s .now) (λ ws. write-nary (c .before .before .before .before .before .before .before .before .before .before .args .op .now) ws (c .before .before .before .before .before .before .before .before .before .before .args .empty .now)) (c .before .before .before .before .before .before .before .before .before .before .args .n) (c .before .before .before .before .before .before .before .before .before .before .args .at) _ _ _ (c .before .before .before .before .if1 .taken) (c .before .before .write-word .ensures)
 
 write-nary-returns-2 : (t : ℕ) → write-nary-lts.Need-returns-2 (write-nary-calls t) (write-nary-at t) write-nary.Post
 unfolding naryText exprsText
-write-nary-returns-2 t c = row-some (exprs-row _) (decExpr (c .before .before .before .before .before .before .before .before .before .before .before .before .before .before .before .before .before .before .before .before .before .before .args .levels)) (c .before .before .before .before .before .before .before .before .before .before .before .before .before .before .before .before .before .before .before .before .before .before .args .s .now) (λ ws. write-nary (c .before .before .before .before .before .before .before .before .before .before .before .before .before .before .before .before .before .before .before .before .before .before .args .op .now) ws (c .before .before .before .before .before .before .before .before .before .before .before .before .before .before .before .before .before .before .before .before .before .before .args .empty .now)) (c .before .before .before .before .before .before .before .before .before .before .before .before .before .before .before .before .before .before .before .before .before .before .args .n) (c .before .before .before .before .before .before .before .before .before .before .before .before .before .before .before .before .before .before .before .before .before .before .args .at) _ _ _ _ _ _ _ (λ w ws. refl) (c .before .before .before .before .before .before .before .before .before .before .before .before .before .before .before .before .before .if1 .left) (c .before .before .before .before .before .before .before .before .before .before .before .before .before .before .before .byte .ensures) (c .before .before .before .before .before .before .before .before .before .before .before .bytes .ensures) (c .before .before .before .before .before .before .before .write-exprs .ensures) (c .before .before .byte2 .ensures)
+write-nary-returns-2 t c = row-some (exprs-row _) (decExpr (c .before .before .before .before .before .before .before .before .before .before .before .before .before .before .before .before .before .before .before .before .before .before .before .args .levels)) (c .before .before .before .before .before .before .before .before .before .before .before .before .before .before .before .before .before .before .before .before .before .before .before .args .s .now) (λ ws. write-nary (c .before .before .before .before .before .before .before .before .before .before .before .before .before .before .before .before .before .before .before .before .before .before .before .args .op .now) ws (c .before .before .before .before .before .before .before .before .before .before .before .before .before .before .before .before .before .before .before .before .before .before .before .args .empty .now)) (c .before .before .before .before .before .before .before .before .before .before .before .before .before .before .before .before .before .before .before .before .before .before .before .args .n) (c .before .before .before .before .before .before .before .before .before .before .before .before .before .before .before .before .before .before .before .before .before .before .before .args .at) _ _ _ _ _ _ _ (λ w ws. refl) (c .before .before .before .before .before .before .before .before .before .before .before .before .before .before .before .before .before .if1 .left) (c .before .before .before .before .before .before .before .before .before .before .before .before .before .before .before .byte .ensures) (c .before .before .before .before .before .before .before .before .before .before .before .bytes .ensures) (c .before .before .before .before .before .before .before .write-exprs .ensures) (c .before .before .byte2 .ensures)
 
 write-ne-returns : (t : ℕ) → write-ne-lts.Need-returns (write-ne-calls t) (write-ne-at t) write-ne.Post
 write-ne-returns t c = ne-sends _ _ _ _ _ _ _ _ _ (c .before .before .before .before .before .before .before .before .before .before .before .before .bytes .ensures) (c .before .before .before .before .before .before .before .write-binary .ensures) (c .before .before .byte .ensures)
 
 write-quantifier-write-expr-requires : (t : ℕ) → write-quantifier-lts.Need-write-expr-requires (write-quantifier-calls t) (write-quantifier-at t) write-quantifier.Post
-write-quantifier-write-expr-requires t c κs = let far = c .before .before .before .before .before .before .before .before .before .before .before .before .before .before .before .before .before .before .before .before .pre in search needs
+write-quantifier-write-expr-requires t c κs = let far = c .before .before .before .before .before .before .before .before .before .before .before .before .before .before .before .before .before .before .before .before .before .pre in search needs
 
 write-quantifier-same-length : (t : ℕ) → write-quantifier-lts.Need-same-length (write-quantifier-calls t) (write-quantifier-at t) write-quantifier.Post
 write-quantifier-same-length t c = let k1 = c .before .before .before .before .before .before .before .before .before .before .before .before .before .before .before .before .before .before .before .before .before .before .before .before .open-quantifier .kept in let k2 = c .before .before .before .before .before .before .before .before .before .before .before .before .before .before .before .before .before .before .before .before .byte .kept in search needs
@@ -541,6 +541,123 @@ write-quantifier-returns t c = quantifier-sends _ _ _ _ _ _ _ _ _ _ _ _ _ _ _ (c
 
 write-unary-returns : (t : ℕ) → write-unary-lts.Need-returns (write-unary-calls t) (write-unary-at t) write-unary.Post
 write-unary-returns t c = unary-sends _ _ _ _ _ _ _ _ _ _ _ _ (c .before .before .before .before .before .before .before .before .before .before .before .before .before .before .before .before .before .before .before .byte .ensures) (c .before .before .before .before .before .before .before .before .before .before .before .before .before .before .before .bytes .ensures) (c .before .before .before .before .before .before .before .before .before .before .before .byte2 .ensures) (c .before .before .before .before .before .before .before .write-expr .ensures) (c .before .before .byte3 .ensures)
+
+write-app-write-application-head-requires : (t : ℕ) → write-app-lts.Need-write-application-head-requires (write-app-calls t) (write-app-at t) write-app.Post
+write-app-write-application-head-requires t c κs = search needs
+
+write-app-write-application-head-requires-2 : (t : ℕ) → write-app-lts.Need-write-application-head-requires-2 (write-app-calls t) (write-app-at t) write-app.Post
+write-app-write-application-head-requires-2 t c κs = search needs
+
+write-application-head-is-qualified-requires : (t : ℕ) → write-application-head-lts.Need-is-qualified-requires (write-application-head-calls t) (write-application-head-at t) write-application-head.Post
+write-application-head-is-qualified-requires t c κs = search needs
+
+write-application-head-write-expr-requires : (t : ℕ) → write-application-head-lts.Need-write-expr-requires (write-application-head-calls t) (write-application-head-at t) write-application-head.Post
+write-application-head-write-expr-requires t c κs = search needs
+
+write-application-head-write-sort-requires : (t : ℕ) → write-application-head-lts.Need-write-sort-requires (write-application-head-calls t) (write-application-head-at t) write-application-head.Post
+write-application-head-write-sort-requires t c κs = search needs
+
+write-application-head-write-expr-requires-2 : (t : ℕ) → write-application-head-lts.Need-write-expr-requires-2 (write-application-head-calls t) (write-application-head-at t) write-application-head.Post
+write-application-head-write-expr-requires-2 t c κs = search needs
+
+write-application-head-write-expr-requires-3 : (t : ℕ) → write-application-head-lts.Need-write-expr-requires-3 (write-application-head-calls t) (write-application-head-at t) write-application-head.Post
+write-application-head-write-expr-requires-3 t c κs = search needs
+
+write-atom-write-binary-requires : (t : ℕ) → write-atom-lts.Need-write-binary-requires (write-atom-calls t) (write-atom-at t) write-atom.Post
+write-atom-write-binary-requires t c κs = search needs
+
+write-atom-write-ne-requires : (t : ℕ) → write-atom-lts.Need-write-ne-requires (write-atom-calls t) (write-atom-at t) write-atom.Post
+write-atom-write-ne-requires t c κs = search needs
+
+write-atom-write-binary-requires-2 : (t : ℕ) → write-atom-lts.Need-write-binary-requires-2 (write-atom-calls t) (write-atom-at t) write-atom.Post
+write-atom-write-binary-requires-2 t c κs = search needs
+
+write-atom-write-binary-requires-3 : (t : ℕ) → write-atom-lts.Need-write-binary-requires-3 (write-atom-calls t) (write-atom-at t) write-atom.Post
+write-atom-write-binary-requires-3 t c κs = search needs
+
+write-atom-write-binary-requires-4 : (t : ℕ) → write-atom-lts.Need-write-binary-requires-4 (write-atom-calls t) (write-atom-at t) write-atom.Post
+write-atom-write-binary-requires-4 t c κs = search needs
+
+write-atom-write-binary-requires-5 : (t : ℕ) → write-atom-lts.Need-write-binary-requires-5 (write-atom-calls t) (write-atom-at t) write-atom.Post
+write-atom-write-binary-requires-5 t c κs = search needs
+
+write-bin-op-write-binary-requires : (t : ℕ) → write-bin-op-lts.Need-write-binary-requires (write-bin-op-calls t) (write-bin-op-at t) write-bin-op.Post
+write-bin-op-write-binary-requires t c κs = search needs
+
+write-bin-op-write-binary-requires-2 : (t : ℕ) → write-bin-op-lts.Need-write-binary-requires-2 (write-bin-op-calls t) (write-bin-op-at t) write-bin-op.Post
+write-bin-op-write-binary-requires-2 t c κs = search needs
+
+write-bin-op-write-binary-requires-3 : (t : ℕ) → write-bin-op-lts.Need-write-binary-requires-3 (write-bin-op-calls t) (write-bin-op-at t) write-bin-op.Post
+write-bin-op-write-binary-requires-3 t c κs = search needs
+
+write-bin-op-write-binary-requires-4 : (t : ℕ) → write-bin-op-lts.Need-write-binary-requires-4 (write-bin-op-calls t) (write-bin-op-at t) write-bin-op.Post
+write-bin-op-write-binary-requires-4 t c κs = search needs
+
+write-bin-op-write-binary-requires-5 : (t : ℕ) → write-bin-op-lts.Need-write-binary-requires-5 (write-bin-op-calls t) (write-bin-op-at t) write-bin-op.Post
+write-bin-op-write-binary-requires-5 t c κs = search needs
+
+write-binary-write-expr-requires : (t : ℕ) → write-binary-lts.Need-write-expr-requires (write-binary-calls t) (write-binary-at t) write-binary.Post
+write-binary-write-expr-requires t c κs = search needs
+
+write-expr-write-unary-requires : (t : ℕ) → write-expr-lts.Need-write-unary-requires (write-expr-calls t) (write-expr-at t) write-expr.Post
+write-expr-write-unary-requires t c κs = search needs
+
+write-expr-write-unary-requires-2 : (t : ℕ) → write-expr-lts.Need-write-unary-requires-2 (write-expr-calls t) (write-expr-at t) write-expr.Post
+write-expr-write-unary-requires-2 t c κs = search needs
+
+write-expr-write-bin-op-requires : (t : ℕ) → write-expr-lts.Need-write-bin-op-requires (write-expr-calls t) (write-expr-at t) write-expr.Post
+write-expr-write-bin-op-requires t c κs = search needs
+
+write-expr-write-atom-requires : (t : ℕ) → write-expr-lts.Need-write-atom-requires (write-expr-calls t) (write-expr-at t) write-expr.Post
+write-expr-write-atom-requires t c κs = search needs
+
+write-expr-write-binary-requires : (t : ℕ) → write-expr-lts.Need-write-binary-requires (write-expr-calls t) (write-expr-at t) write-expr.Post
+write-expr-write-binary-requires t c κs = search needs
+
+write-expr-write-binary-requires-2 : (t : ℕ) → write-expr-lts.Need-write-binary-requires-2 (write-expr-calls t) (write-expr-at t) write-expr.Post
+write-expr-write-binary-requires-2 t c κs = search needs
+
+write-expr-write-nary-requires : (t : ℕ) → write-expr-lts.Need-write-nary-requires (write-expr-calls t) (write-expr-at t) write-expr.Post
+write-expr-write-nary-requires t c κs = search needs
+
+write-expr-write-nary-requires-2 : (t : ℕ) → write-expr-lts.Need-write-nary-requires-2 (write-expr-calls t) (write-expr-at t) write-expr.Post
+write-expr-write-nary-requires-2 t c κs = search needs
+
+write-expr-write-ite-requires : (t : ℕ) → write-expr-lts.Need-write-ite-requires (write-expr-calls t) (write-expr-at t) write-expr.Post
+write-expr-write-ite-requires t c κs = search needs
+
+write-expr-write-let-requires : (t : ℕ) → write-expr-lts.Need-write-let-requires (write-expr-calls t) (write-expr-at t) write-expr.Post
+write-expr-write-let-requires t c κs = search needs
+
+write-expr-write-app-requires : (t : ℕ) → write-expr-lts.Need-write-app-requires (write-expr-calls t) (write-expr-at t) write-expr.Post
+write-expr-write-app-requires t c κs = search needs
+
+write-expr-write-is-ctor-requires : (t : ℕ) → write-expr-lts.Need-write-is-ctor-requires (write-expr-calls t) (write-expr-at t) write-expr.Post
+write-expr-write-is-ctor-requires t c κs = search needs
+
+write-expr-write-quantifier-requires : (t : ℕ) → write-expr-lts.Need-write-quantifier-requires (write-expr-calls t) (write-expr-at t) write-expr.Post
+write-expr-write-quantifier-requires t c κs = search needs
+
+write-is-ctor-write-expr-requires : (t : ℕ) → write-is-ctor-lts.Need-write-expr-requires (write-is-ctor-calls t) (write-is-ctor-at t) write-is-ctor.Post
+write-is-ctor-write-expr-requires t c κs = search needs
+
+write-ite-write-expr-requires : (t : ℕ) → write-ite-lts.Need-write-expr-requires (write-ite-calls t) (write-ite-at t) write-ite.Post
+write-ite-write-expr-requires t c κs = search needs
+
+write-let-write-expr-requires : (t : ℕ) → write-let-lts.Need-write-expr-requires (write-let-calls t) (write-let-at t) write-let.Post
+write-let-write-expr-requires t c κs = search needs
+
+write-nary-write-exprs-requires : (t : ℕ) → write-nary-lts.Need-write-exprs-requires (write-nary-calls t) (write-nary-at t) write-nary.Post
+write-nary-write-exprs-requires t c κs = search needs
+
+write-ne-write-binary-requires : (t : ℕ) → write-ne-lts.Need-write-binary-requires (write-ne-calls t) (write-ne-at t) write-ne.Post
+write-ne-write-binary-requires t c κs = search needs
+
+write-quantifier-write-binder-list-requires : (t : ℕ) → write-quantifier-lts.Need-write-binder-list-requires (write-quantifier-calls t) (write-quantifier-at t) write-quantifier.Post
+write-quantifier-write-binder-list-requires t c κs = search needs
+
+write-unary-write-expr-requires : (t : ℕ) → write-unary-lts.Need-write-expr-requires (write-unary-calls t) (write-unary-at t) write-unary.Post
+write-unary-write-expr-requires t c κs = search needs
 
 pub +write-app+write-application-head+write-atom+write-bin-op+write-binary+write-expr+write-exprs+write-is-ctor+write-ite+write-let+write-nary+write-ne+write-quantifier+write-unary-spec :
     {M : Type 1} → statement M
@@ -574,51 +691,51 @@ pub +write-app+write-application-head+write-atom+write-bin-op+write-binary+write
     (λ c. search needs)
     (λ c. search needs)
     (write-app-returns-3 t)
-    (λ c κs. search needs)
+    (write-app-write-application-head-requires t)
     (λ c. search needs)
     (write-app-returns-4 t)
     (λ c κs. search needs)
-    (λ c κs. search needs)
+    (write-app-write-application-head-requires-2 t)
     (write-app-write-exprs-requires t)
     (λ c κs. search needs)
     (λ c. search needs)
     (write-app-returns-5 t))
     (λ t. write-application-head-lts.spec (write-application-head-calls t) (write-application-head-at t)
     write-application-head.Post
-    (λ c κs. search needs)
+    (write-application-head-is-qualified-requires t)
     (λ c. search needs)
     (λ c κs. search needs)
+    (write-application-head-write-expr-requires t)
     (λ c κs. search needs)
-    (λ c κs. search needs)
-    (λ c κs. search needs)
+    (write-application-head-write-sort-requires t)
     (λ c κs. search needs)
     (λ c. search needs)
     (write-application-head-returns t)
-    (λ c κs. search needs)
+    (write-application-head-write-expr-requires-2 t)
     (λ c. search needs)
     (write-application-head-returns-2 t)
-    (λ c κs. search needs)
+    (write-application-head-write-expr-requires-3 t)
     (λ c. search needs)
     (write-application-head-returns-3 t))
     (λ t. write-atom-lts.spec (write-atom-calls t) (write-atom-at t)
     write-atom.Post
     (λ c. search needs)
     (λ c. search needs)
-    (λ c κs. search needs)
+    (write-atom-write-binary-requires t)
     (λ c. search needs)
-    (λ c κs. search needs)
-    (λ c. search needs)
-    (λ c. search needs)
-    (λ c κs. search needs)
+    (write-atom-write-ne-requires t)
     (λ c. search needs)
     (λ c. search needs)
-    (λ c κs. search needs)
+    (write-atom-write-binary-requires-2 t)
     (λ c. search needs)
     (λ c. search needs)
-    (λ c κs. search needs)
+    (write-atom-write-binary-requires-3 t)
     (λ c. search needs)
     (λ c. search needs)
-    (λ c κs. search needs)
+    (write-atom-write-binary-requires-4 t)
+    (λ c. search needs)
+    (λ c. search needs)
+    (write-atom-write-binary-requires-5 t)
     (λ c. search needs)
     (write-atom-returns t)
     (λ c. search needs)
@@ -635,19 +752,19 @@ pub +write-app+write-application-head+write-atom+write-bin-op+write-binary+write
     write-bin-op.Post
     (λ c. search needs)
     (λ c. search needs)
-    (λ c κs. search needs)
+    (write-bin-op-write-binary-requires t)
     (λ c. search needs)
     (λ c. search needs)
-    (λ c κs. search needs)
+    (write-bin-op-write-binary-requires-2 t)
     (λ c. search needs)
     (λ c. search needs)
-    (λ c κs. search needs)
+    (write-bin-op-write-binary-requires-3 t)
     (λ c. search needs)
     (λ c. search needs)
-    (λ c κs. search needs)
+    (write-bin-op-write-binary-requires-4 t)
     (λ c. search needs)
     (λ c. search needs)
-    (λ c κs. search needs)
+    (write-bin-op-write-binary-requires-5 t)
     (λ c. search needs)
     (write-bin-op-returns t)
     (λ c. search needs)
@@ -663,7 +780,7 @@ pub +write-app+write-application-head+write-atom+write-bin-op+write-binary+write
     (λ c κs. search needs)
     (λ c κs. search needs)
     (λ c κs. search needs)
-    (λ c κs. search needs)
+    (write-binary-write-expr-requires t)
     (λ c κs. search needs)
     (write-binary-write-expr-requires-2 t)
     (λ c κs. search needs)
@@ -689,40 +806,40 @@ pub +write-app+write-application-head+write-atom+write-bin-op+write-binary+write
     (λ c. search needs)
     (λ c. search needs)
     (λ c. search needs)
-    (λ c κs. search needs)
+    (write-expr-write-unary-requires t)
     (λ c. search needs)
     (λ c. search needs)
-    (λ c κs. search needs)
+    (write-expr-write-unary-requires-2 t)
     (λ c. search needs)
-    (λ c κs. search needs)
+    (write-expr-write-bin-op-requires t)
     (λ c. search needs)
-    (λ c κs. search needs)
-    (λ c. search needs)
-    (λ c. search needs)
-    (λ c κs. search needs)
+    (write-expr-write-atom-requires t)
     (λ c. search needs)
     (λ c. search needs)
-    (λ c κs. search needs)
+    (write-expr-write-binary-requires t)
     (λ c. search needs)
     (λ c. search needs)
-    (λ c. search needs)
-    (λ c κs. search needs)
+    (write-expr-write-binary-requires-2 t)
     (λ c. search needs)
     (λ c. search needs)
     (λ c. search needs)
-    (λ c κs. search needs)
+    (write-expr-write-nary-requires t)
     (λ c. search needs)
-    (λ c κs. search needs)
     (λ c. search needs)
-    (λ c κs. search needs)
     (λ c. search needs)
-    (λ c κs. search needs)
+    (write-expr-write-nary-requires-2 t)
     (λ c. search needs)
-    (λ c κs. search needs)
+    (write-expr-write-ite-requires t)
+    (λ c. search needs)
+    (write-expr-write-let-requires t)
+    (λ c. search needs)
+    (write-expr-write-app-requires t)
     (λ c. search needs)
     (λ c κs. search needs)
     (λ c. search needs)
-    (λ c κs. search needs)
+    (write-expr-write-is-ctor-requires t)
+    (λ c. search needs)
+    (write-expr-write-quantifier-requires t)
     (λ c. search needs)
     (λ c. search needs)
     (write-expr-returns-2 t)
@@ -785,7 +902,7 @@ pub +write-app+write-application-head+write-atom+write-bin-op+write-binary+write
     (λ c κs. search needs)
     (λ c. search needs)
     (λ c κs. search needs)
-    (λ c κs. search needs)
+    (write-is-ctor-write-expr-requires t)
     (λ c κs. search needs)
     (λ c. search needs)
     (write-is-ctor-returns t))
@@ -793,7 +910,7 @@ pub +write-app+write-application-head+write-atom+write-bin-op+write-binary+write
     write-ite.Post
     (λ c. search needs)
     (λ c κs. search needs)
-    (λ c κs. search needs)
+    (write-ite-write-expr-requires t)
     (λ c κs. search needs)
     (write-ite-write-expr-requires-2 t)
     (λ c κs. search needs)
@@ -807,7 +924,7 @@ pub +write-app+write-application-head+write-atom+write-bin-op+write-binary+write
     (λ c κs. search needs)
     (λ c κs. search needs)
     (λ c κs. search needs)
-    (λ c κs. search needs)
+    (write-let-write-expr-requires t)
     (λ c. search needs)
     (λ c κs. search needs)
     (write-let-write-expr-requires-2 t)
@@ -821,7 +938,7 @@ pub +write-app+write-application-head+write-atom+write-bin-op+write-binary+write
     (write-nary-returns t)
     (λ c κs. search needs)
     (λ c κs. search needs)
-    (λ c κs. search needs)
+    (write-nary-write-exprs-requires t)
     (λ c κs. search needs)
     (λ c. search needs)
     (write-nary-returns-2 t))
@@ -830,7 +947,7 @@ pub +write-app+write-application-head+write-atom+write-bin-op+write-binary+write
     (λ c. search needs)
     (λ c κs. search needs)
     (λ c. search needs)
-    (λ c κs. search needs)
+    (write-ne-write-binary-requires t)
     (λ c κs. search needs)
     (λ c. search needs)
     (write-ne-returns t))
@@ -838,7 +955,7 @@ pub +write-app+write-application-head+write-atom+write-bin-op+write-binary+write
     write-quantifier.Post
     (λ c κs. search needs)
     (λ c κs. search needs)
-    (λ c κs. search needs)
+    (write-quantifier-write-binder-list-requires t)
     (λ c κs. search needs)
     (write-quantifier-write-expr-requires t)
     (λ c κs. search needs)
@@ -849,7 +966,7 @@ pub +write-app+write-application-head+write-atom+write-bin-op+write-binary+write
     (λ c κs. search needs)
     (λ c κs. search needs)
     (λ c κs. search needs)
-    (λ c κs. search needs)
+    (write-unary-write-expr-requires t)
     (λ c κs. search needs)
     (λ c. search needs)
     (write-unary-returns t)

@@ -11,10 +11,10 @@ use Rattle.smt_fmt.proofs.write_args.Statement.{statement}
 use Rattle.smt_fmt.proofs.write_args.Tie as tie
 
 abbrev Inv-loop : tie.InvT-loop
-Inv-loop s at m from n types buf₀ p₀ q₀ names₀ sorts₀ sent₀ buf p q names sorts sent = Zipping (encoderIn s types) s m at n from (output buf₀ (sent₀ .len)) names p sorts q (output buf (sent .len)) × (length buf ≡ length buf₀)
+Inv-loop s at m from n enc buf₀ p₀ q₀ names₀ sorts₀ sent₀ buf p q names sorts sent = Zipping (encoderIn s enc) s m at n from (output buf₀ (sent₀ .len)) names p sorts q (output buf (sent .len)) × (length buf ≡ length buf₀)
 
 abbrev μ-loop : tie.MeasureT-loop
-μ-loop s at m from n types buf₀ p₀ q₀ names₀ sorts₀ sent₀ buf p q names sorts sent = names
+μ-loop s at m from n enc buf₀ p₀ q₀ names₀ sorts₀ sent₀ buf p q names sorts sent = names
 
 loop-holds : tie.Need-loop-holds Inv-loop μ-loop
 loop-holds c = (zip-start _ _ _ _ _ _ _, refl)

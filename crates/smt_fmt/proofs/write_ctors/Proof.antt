@@ -12,10 +12,10 @@ use Rattle.smt_fmt.proofs.write_ctors.Statement.{statement}
 use Rattle.smt_fmt.proofs.write_ctors.Tie as tie
 
 abbrev Inv-loop : tie.InvT-loop
-Inv-loop s at n types buf₀ p₀ left₀ sent₀ buf p left sent = Owes (ctors-row (encoderIn s types)) dataCtor s n at (output buf₀ (sent₀ .len)) left p (output buf (sent .len)) × (length buf ≡ length buf₀)
+Inv-loop s at n enc buf₀ p₀ left₀ sent₀ buf p left sent = Owes (ctors-row (encoderIn s enc)) dataCtor s n at (output buf₀ (sent₀ .len)) left p (output buf (sent .len)) × (length buf ≡ length buf₀)
 
 abbrev μ-loop : tie.MeasureT-loop
-μ-loop s at n types buf₀ p₀ left₀ sent₀ buf p left sent = left
+μ-loop s at n enc buf₀ p₀ left₀ sent₀ buf p left sent = left
 
 loop-holds : tie.Need-loop-holds Inv-loop μ-loop
 loop-holds c = (owes-start _ _ _ _ _ _, refl)

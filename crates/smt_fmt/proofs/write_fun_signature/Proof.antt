@@ -20,7 +20,7 @@ same-length : tie.Need-same-length
 same-length c = search needs
 
 returns : tie.Need-returns
-returns c = signature-sends _ (c .before .before .before .before .before .before .before .before .before .before .before .before .before .before .before .before .before .args .s .now) _ (c .before .before .before .before .before .before .before .before .before .before .before .before .before .before .before .before .before .args .n) (c .before .before .before .before .before .before .before .before .before .before .before .before .before .before .before .before .before .args .at) _ (c .before .before .before .before .before .before .before .before .before .before .before .before .before .before .before .before .before .args .from) _ _ _ _ _ (c .before .before .before .before .before .before .before .before .before .before .before .before .before .open-signature .ensures) (c .before .before .before .before .before .before .before .before .write-sort .ensures) (c .before .before .bytes .ensures)
+returns c = signature-sends _ (c .before .before .before .before .before .before .before .before .before .before .before .before .before .before .before .before .before .before .args .s .now) _ (c .before .before .before .before .before .before .before .before .before .before .before .before .before .before .before .before .before .before .args .n) (c .before .before .before .before .before .before .before .before .before .before .before .before .before .before .before .before .before .before .args .at) _ (c .before .before .before .before .before .before .before .before .before .before .before .before .before .before .before .before .before .before .args .from) _ _ _ _ _ (c .before .before .before .before .before .before .before .before .before .before .before .before .before .open-signature .ensures) (c .before .before .before .before .before .before .before .before .write-sort .ensures) (c .before .before .bytes .ensures)
 
 pub write-fun-signature-spec : {M : Type 1} → statement M
 write-fun-signature-spec =

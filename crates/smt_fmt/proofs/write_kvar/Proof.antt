@@ -19,7 +19,7 @@ same-length c = search needs
 
 returns : tie.Need-returns
 unfolding kvarText
-returns c = row-none (exprs-row _) (decExpr _) (c .before .before .before .before .before .before .before .args .s .now) (applied (write-name (bytesOf (c .before .before .before .before .before .before .before .args .s .now) (c .before .before .before .before .before .before .before .args .x)))) (c .before .before .before .before .before .before .before .args .n) (c .before .before .before .before .before .before .before .args .at) _ _ _ (c .before .before .before .before .if1 .taken) (refl, c .before .before .name .ensures)
+returns c = row-none (exprs-row _) (decExpr _) (c .before .before .before .before .before .before .before .before .args .s .now) (applied (write-name (bytesOf (c .before .before .before .before .before .before .before .before .args .s .now) (c .before .before .before .before .before .before .before .before .args .x)))) (c .before .before .before .before .before .before .before .before .args .n) (c .before .before .before .before .before .before .before .before .args .at) _ _ _ (c .before .before .before .before .if1 .taken) (refl, c .before .before .name .ensures)
 
 byte-requires : tie.Need-byte-requires
 byte-requires c κs = search needs
@@ -38,7 +38,7 @@ same-length-2 c = search needs
 
 returns-2 : tie.Need-returns-2
 unfolding kvarText exprsText
-returns-2 c = row-some (exprs-row _) (decExpr _) (c .before .before .before .before .before .before .before .before .before .before .before .before .before .before .before .before .before .before .before .before .args .s .now) (applied (write-name (bytesOf (c .before .before .before .before .before .before .before .before .before .before .before .before .before .before .before .before .before .before .before .before .args .s .now) (c .before .before .before .before .before .before .before .before .before .before .before .before .before .before .before .before .before .before .before .before .args .x)))) (c .before .before .before .before .before .before .before .before .before .before .before .before .before .before .before .before .before .before .before .before .args .n) (c .before .before .before .before .before .before .before .before .before .before .before .before .before .before .before .before .before .before .before .before .args .at) _ _ _ _ _ _ _ (λ w ws. refl) (c .before .before .before .before .before .before .before .before .before .before .before .before .before .before .before .before .before .if1 .left) (c .before .before .before .before .before .before .before .before .before .before .before .before .before .before .before .byte .ensures) (c .before .before .before .before .before .before .before .before .before .before .before .name2 .ensures) (c .before .before .before .before .before .before .before .write-exprs .ensures) (c .before .before .byte2 .ensures)
+returns-2 c = row-some (exprs-row _) (decExpr _) (c .before .before .before .before .before .before .before .before .before .before .before .before .before .before .before .before .before .before .before .before .before .args .s .now) (applied (write-name (bytesOf (c .before .before .before .before .before .before .before .before .before .before .before .before .before .before .before .before .before .before .before .before .before .args .s .now) (c .before .before .before .before .before .before .before .before .before .before .before .before .before .before .before .before .before .before .before .before .before .args .x)))) (c .before .before .before .before .before .before .before .before .before .before .before .before .before .before .before .before .before .before .before .before .before .args .n) (c .before .before .before .before .before .before .before .before .before .before .before .before .before .before .before .before .before .before .before .before .before .args .at) _ _ _ _ _ _ _ (λ w ws. refl) (c .before .before .before .before .before .before .before .before .before .before .before .before .before .before .before .before .before .if1 .left) (c .before .before .before .before .before .before .before .before .before .before .before .before .before .before .before .byte .ensures) (c .before .before .before .before .before .before .before .before .before .before .before .name2 .ensures) (c .before .before .before .before .before .before .before .write-exprs .ensures) (c .before .before .byte2 .ensures)
 
 pub write-kvar-spec : {M : Type 1} → statement M
 write-kvar-spec =

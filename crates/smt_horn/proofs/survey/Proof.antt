@@ -13,14 +13,17 @@ enum-known-inspected c = search needs
 all-parts-requires : tie.Need-all-parts-requires
 all-parts-requires c κs = search needs
 
-measure-requires : tie.Need-measure-requires
-measure-requires c κs = accepted _ _ _ _ _ (c .before .before .before .before .inspect .ensures) (c .before .before .inspected .given .1) .inside
+slice-aggregate-put-parts : tie.Need-slice-aggregate-put-parts
+slice-aggregate-put-parts c = search needs
+
+put-parts-requires : tie.Need-put-parts-requires
+put-parts-requires c κs = accepted _ _ _ _ _ (c .before .before .before .before .before .inspect .ensures) (c .before .before .before .inspected .given .1)
 
 enum-known-inspected-2 : tie.Need-enum-known-inspected-2
 enum-known-inspected-2 c = search needs
 
 returns : tie.Need-returns
-returns c = let a = accepted _ _ _ _ _ (c .before .before .before .before .before .inspect .ensures) (c .before .before .before .inspected .given .1) in survey-found _ _ a (are-bytes (c .before .before .before .before .before .before .before .args .file .now) (c .before .before .before .before .before .before .shared-slice-known .given)) _ _ (c .measure .ensures) (c .before .all-parts .ensures) _ (heads-found _ _ _ _ _ (c .before .before .before .before .before .inspect .ensures) (c .before .before .before .inspected .given .1) (a .task) (a .end) (a .held))
+returns c = let a = accepted _ _ _ _ _ (c .before .before .before .before .before .before .before .inspect .ensures) (c .before .before .before .before .before .inspected .given .1) in survey-found _ _ a (are-bytes (c .before .before .before .before .before .before .before .before .before .args .file .now) (c .before .before .before .before .before .before .before .before .shared-slice-known .given)) _ _ _ _ (c .before .put-parts .ensures) (c .before .before .before .all-parts .ensures) _ (heads-found _ _ _ _ _ (c .before .before .before .before .before .before .before .inspect .ensures) (c .before .before .before .before .before .inspected .given .1) (a .task) (a .end) (a .held))
 
 returns-2 : tie.Need-returns-2
 returns-2 c = survey-refused _ _ (refused-with _ _ _ (c .before .before .before .inspect .ensures) (c .before .inspected2 .given .1))
@@ -32,7 +35,8 @@ survey-spec =
     inspect-requires
     enum-known-inspected
     all-parts-requires
-    measure-requires
+    slice-aggregate-put-parts
+    put-parts-requires
     enum-known-inspected-2
     returns
     returns-2)

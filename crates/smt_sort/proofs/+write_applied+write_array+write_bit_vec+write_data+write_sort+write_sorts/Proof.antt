@@ -49,79 +49,79 @@ use Rattle.smt_sort.proofs.+write_applied+write_array+write_bit_vec+wri
   close,
 }
 
-abbrev μ-write-applied : Measures 2 write-applied-kinds.ps ℕ
+abbrev μ-write-applied : Measures 3 write-applied-kinds.ps ℕ
 μ-write-applied κs a = 4 * a .1 .1 .1 .1 .0 + 2
 
-abbrev μ-write-array : Measures 2 write-array-kinds.ps ℕ
+abbrev μ-write-array : Measures 3 write-array-kinds.ps ℕ
 μ-write-array κs a = 4 * a .1 .1 .0 + 3
 
-abbrev μ-write-bit-vec : Measures 2 write-bit-vec-kinds.ps ℕ
+abbrev μ-write-bit-vec : Measures 3 write-bit-vec-kinds.ps ℕ
 μ-write-bit-vec κs a = 4 * a .1 .1 .0 + 3
 
-abbrev μ-write-data : Measures 2 write-data-kinds.ps ℕ
+abbrev μ-write-data : Measures 3 write-data-kinds.ps ℕ
 μ-write-data κs a = 4 * a .1 .1 .1 .1 .0 + 3
 
-abbrev μ-write-sort : Measures 2 write-sort-kinds.ps ℕ
+abbrev μ-write-sort : Measures 3 write-sort-kinds.ps ℕ
 μ-write-sort κs a = 4 * a .1 .1 .0
 
-abbrev μ-write-sorts : Measures 2 write-sorts-kinds.ps ℕ
+abbrev μ-write-sorts : Measures 3 write-sorts-kinds.ps ℕ
 μ-write-sorts κs a = 4 * a .1 .1 .1 .0 + 1
 
-abbrev write-applied-at : ℕ → In 2 write-applied-kinds.ps
+abbrev write-applied-at : ℕ → In 3 write-applied-kinds.ps
 write-applied-at t =
-    and 2 write-applied-kinds.ps (is 2 write-applied-kinds.ps μ-write-applied t) write-applied.Pre
+    and 3 write-applied-kinds.ps (is 3 write-applied-kinds.ps μ-write-applied t) write-applied.Pre
 
-abbrev write-applied-below : ℕ → In 2 write-applied-kinds.ps
+abbrev write-applied-below : ℕ → In 3 write-applied-kinds.ps
 write-applied-below t =
     and
-    2
+    3
     write-applied-kinds.ps
-    (falls 2 write-applied-kinds.ps _<_ μ-write-applied t)
+    (falls 3 write-applied-kinds.ps _<_ μ-write-applied t)
     write-applied.Pre
 
-abbrev write-array-at : ℕ → In 2 write-array-kinds.ps
+abbrev write-array-at : ℕ → In 3 write-array-kinds.ps
 write-array-at t =
-    and 2 write-array-kinds.ps (is 2 write-array-kinds.ps μ-write-array t) write-array.Pre
+    and 3 write-array-kinds.ps (is 3 write-array-kinds.ps μ-write-array t) write-array.Pre
 
-abbrev write-array-below : ℕ → In 2 write-array-kinds.ps
+abbrev write-array-below : ℕ → In 3 write-array-kinds.ps
 write-array-below t =
-    and 2 write-array-kinds.ps (falls 2 write-array-kinds.ps _<_ μ-write-array t) write-array.Pre
+    and 3 write-array-kinds.ps (falls 3 write-array-kinds.ps _<_ μ-write-array t) write-array.Pre
 
-abbrev write-bit-vec-at : ℕ → In 2 write-bit-vec-kinds.ps
+abbrev write-bit-vec-at : ℕ → In 3 write-bit-vec-kinds.ps
 write-bit-vec-at t =
-    and 2 write-bit-vec-kinds.ps (is 2 write-bit-vec-kinds.ps μ-write-bit-vec t) write-bit-vec.Pre
+    and 3 write-bit-vec-kinds.ps (is 3 write-bit-vec-kinds.ps μ-write-bit-vec t) write-bit-vec.Pre
 
-abbrev write-bit-vec-below : ℕ → In 2 write-bit-vec-kinds.ps
+abbrev write-bit-vec-below : ℕ → In 3 write-bit-vec-kinds.ps
 write-bit-vec-below t =
     and
-    2
+    3
     write-bit-vec-kinds.ps
-    (falls 2 write-bit-vec-kinds.ps _<_ μ-write-bit-vec t)
+    (falls 3 write-bit-vec-kinds.ps _<_ μ-write-bit-vec t)
     write-bit-vec.Pre
 
-abbrev write-data-at : ℕ → In 2 write-data-kinds.ps
+abbrev write-data-at : ℕ → In 3 write-data-kinds.ps
 write-data-at t =
-    and 2 write-data-kinds.ps (is 2 write-data-kinds.ps μ-write-data t) write-data.Pre
+    and 3 write-data-kinds.ps (is 3 write-data-kinds.ps μ-write-data t) write-data.Pre
 
-abbrev write-data-below : ℕ → In 2 write-data-kinds.ps
+abbrev write-data-below : ℕ → In 3 write-data-kinds.ps
 write-data-below t =
-    and 2 write-data-kinds.ps (falls 2 write-data-kinds.ps _<_ μ-write-data t) write-data.Pre
+    and 3 write-data-kinds.ps (falls 3 write-data-kinds.ps _<_ μ-write-data t) write-data.Pre
 
-abbrev write-sort-at : ℕ → In 2 write-sort-kinds.ps
+abbrev write-sort-at : ℕ → In 3 write-sort-kinds.ps
 write-sort-at t =
-    and 2 write-sort-kinds.ps (is 2 write-sort-kinds.ps μ-write-sort t) write-sort.Pre
+    and 3 write-sort-kinds.ps (is 3 write-sort-kinds.ps μ-write-sort t) write-sort.Pre
 
-abbrev write-sort-below : ℕ → In 2 write-sort-kinds.ps
+abbrev write-sort-below : ℕ → In 3 write-sort-kinds.ps
 write-sort-below t =
-    and 2 write-sort-kinds.ps (falls 2 write-sort-kinds.ps _<_ μ-write-sort t) write-sort.Pre
+    and 3 write-sort-kinds.ps (falls 3 write-sort-kinds.ps _<_ μ-write-sort t) write-sort.Pre
 
-abbrev write-sorts-at : ℕ → In 2 write-sorts-kinds.ps
+abbrev write-sorts-at : ℕ → In 3 write-sorts-kinds.ps
 write-sorts-at t =
-    and 2 write-sorts-kinds.ps (is 2 write-sorts-kinds.ps μ-write-sorts t) write-sorts.Pre
+    and 3 write-sorts-kinds.ps (is 3 write-sorts-kinds.ps μ-write-sorts t) write-sorts.Pre
 
-abbrev write-sorts-below : ℕ → In 2 write-sorts-kinds.ps
+abbrev write-sorts-below : ℕ → In 3 write-sorts-kinds.ps
 write-sorts-below t =
-    and 2 write-sorts-kinds.ps (falls 2 write-sorts-kinds.ps _<_ μ-write-sorts t) write-sorts.Pre
+    and 3 write-sorts-kinds.ps (falls 3 write-sorts-kinds.ps _<_ μ-write-sorts t) write-sorts.Pre
 
 -- what the calls in it ask and give
 abbrev write-applied-calls : ℕ → write-applied-lts.Claims
@@ -149,11 +149,11 @@ write-sorts-calls t = (byte-reads.Asked, byte-reads.Learnt, write-sort-below t, 
 
 write-applied-returns : (t : ℕ) → write-applied-lts.Need-returns (write-applied-calls t) (write-applied-at t) write-applied.Post
 unfolding appliedText
-write-applied-returns t c = row-none (sorts-row _) (decSort _) (c .before .before .before .before .before .before .before .args .s .now) (applied (write-sort-ctor (ctorOf (c .before .before .before .before .before .before .before .args .s .now) (c .before .before .before .before .before .before .before .args .ctor)))) (c .before .before .before .before .before .before .before .args .n) (c .before .before .before .before .before .before .before .args .at) _ _ _ (c .before .before .before .before .if1 .taken) (refl, c .before .before .write-sort-ctor .ensures)
+write-applied-returns t c = row-none (sorts-row _) (decSort _) (c .before .before .before .before .before .before .before .before .args .s .now) (applied (write-sort-ctor (ctorOf (c .before .before .before .before .before .before .before .before .args .s .now) (c .before .before .before .before .before .before .before .before .args .ctor)))) (c .before .before .before .before .before .before .before .before .args .n) (c .before .before .before .before .before .before .before .before .args .at) _ _ _ (c .before .before .before .before .if1 .taken) (refl, c .before .before .write-sort-ctor .ensures)
 
 write-applied-returns-2 : (t : ℕ) → write-applied-lts.Need-returns-2 (write-applied-calls t) (write-applied-at t) write-applied.Post
 unfolding appliedText sortsText
-write-applied-returns-2 t c = row-some (sorts-row _) (decSort _) (c .before .before .before .before .before .before .before .before .before .before .before .before .before .before .before .before .before .before .before .before .args .s .now) (applied (write-sort-ctor (ctorOf (c .before .before .before .before .before .before .before .before .before .before .before .before .before .before .before .before .before .before .before .before .args .s .now) (c .before .before .before .before .before .before .before .before .before .before .before .before .before .before .before .before .before .before .before .before .args .ctor)))) (c .before .before .before .before .before .before .before .before .before .before .before .before .before .before .before .before .before .before .before .before .args .n) (c .before .before .before .before .before .before .before .before .before .before .before .before .before .before .before .before .before .before .before .before .args .at) _ _ _ _ _ _ _ (λ w ws. refl) (c .before .before .before .before .before .before .before .before .before .before .before .before .before .before .before .before .before .if1 .left) (c .before .before .before .before .before .before .before .before .before .before .before .before .before .before .before .byte .ensures) (c .before .before .before .before .before .before .before .before .before .before .before .write-sort-ctor2 .ensures) (c .before .before .before .before .before .before .before .write-sorts .ensures) (c .before .before .byte2 .ensures)
+write-applied-returns-2 t c = row-some (sorts-row _) (decSort _) (c .before .before .before .before .before .before .before .before .before .before .before .before .before .before .before .before .before .before .before .before .before .args .s .now) (applied (write-sort-ctor (ctorOf (c .before .before .before .before .before .before .before .before .before .before .before .before .before .before .before .before .before .before .before .before .before .args .s .now) (c .before .before .before .before .before .before .before .before .before .before .before .before .before .before .before .before .before .before .before .before .before .args .ctor)))) (c .before .before .before .before .before .before .before .before .before .before .before .before .before .before .before .before .before .before .before .before .before .args .n) (c .before .before .before .before .before .before .before .before .before .before .before .before .before .before .before .before .before .before .before .before .before .args .at) _ _ _ _ _ _ _ (λ w ws. refl) (c .before .before .before .before .before .before .before .before .before .before .before .before .before .before .before .before .before .if1 .left) (c .before .before .before .before .before .before .before .before .before .before .before .before .before .before .before .byte .ensures) (c .before .before .before .before .before .before .before .before .before .before .before .write-sort-ctor2 .ensures) (c .before .before .before .before .before .before .before .write-sorts .ensures) (c .before .before .byte2 .ensures)
 
 write-array-returns : (t : ℕ) → write-array-lts.Need-returns (write-array-calls t) (write-array-at t) write-array.Post
 write-array-returns t c = search func-sends
@@ -221,10 +221,10 @@ write-sort-returns-14 : (t : ℕ) → write-sort-lts.Need-returns-14 (write-sort
 write-sort-returns-14 t c = sort-arm _ _ _ _ _ _ _ _ _ (c .before .before .before .if1 .left) (c .before .before .read-sort-node .ensures) (c .enum-told .given .1) (refused-sends _ _ _ _ _ _)
 
 abbrev write-sorts-Inv-loop : write-sorts-lts.InvT-loop
-write-sorts-Inv-loop s at n levels types buf₀ p₀ left₀ sent₀ buf p left sent = Owes (sorts-row (encoderIn s types)) (decSort levels) s n at (output buf₀ (sent₀ .len)) left p (output buf (sent .len)) × (length buf ≡ length buf₀)
+write-sorts-Inv-loop s at n levels enc buf₀ p₀ left₀ sent₀ buf p left sent = Owes (sorts-row (encoderIn s enc)) (decSort levels) s n at (output buf₀ (sent₀ .len)) left p (output buf (sent .len)) × (length buf ≡ length buf₀)
 
 abbrev write-sorts-μ-loop : write-sorts-lts.MeasureT-loop
-write-sorts-μ-loop s at n levels types buf₀ p₀ left₀ sent₀ buf p left sent = left
+write-sorts-μ-loop s at n levels enc buf₀ p₀ left₀ sent₀ buf p left sent = left
 
 write-sorts-loop-holds : (t : ℕ) → write-sorts-lts.Need-loop-holds (write-sorts-calls t) (write-sorts-at t) write-sorts.Post write-sorts-Inv-loop write-sorts-μ-loop
 write-sorts-loop-holds t c = (owes-start _ _ _ _ _ _, refl)

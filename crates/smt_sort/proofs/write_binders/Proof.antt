@@ -11,10 +11,10 @@ use Rattle.smt_sort.proofs.write_binders.Statement.{statement}
 use Rattle.smt_sort.proofs.write_binders.Tie as tie
 
 abbrev Inv-loop : tie.InvT-loop
-Inv-loop s at n levels types buf₀ p₀ left₀ sent₀ buf p left sent = Owes (binders-row (encoderIn s types)) (binder levels) s n at (output buf₀ (sent₀ .len)) left p (output buf (sent .len)) × (length buf ≡ length buf₀)
+Inv-loop s at n levels enc buf₀ p₀ left₀ sent₀ buf p left sent = Owes (binders-row (encoderIn s enc)) (binder levels) s n at (output buf₀ (sent₀ .len)) left p (output buf (sent .len)) × (length buf ≡ length buf₀)
 
 abbrev μ-loop : tie.MeasureT-loop
-μ-loop s at n levels types buf₀ p₀ left₀ sent₀ buf p left sent = left
+μ-loop s at n levels enc buf₀ p₀ left₀ sent₀ buf p left sent = left
 
 loop-holds : tie.Need-loop-holds Inv-loop μ-loop
 loop-holds c = (owes-start _ _ _ _ _ _, refl)

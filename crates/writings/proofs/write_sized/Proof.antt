@@ -15,7 +15,7 @@ slice-aggregate-write-from : tie.Need-slice-aggregate-write-from
 slice-aggregate-write-from c = simp length-take (omega arith)
 
 write-from-requires : tie.Need-write-from-requires
-write-from-requires c κs = search needs
+write-from-requires c κs = simp length-take (omega arith)
 
 returns : tie.Need-returns
 returns c = search needs

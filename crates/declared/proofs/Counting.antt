@@ -1,0 +1,107 @@
+-- At least three bytes belong to each name that a task declares: `task-few`. So a table with as many words for entries as the file has bytes
+-- has room for all.
+use mathlib.Core.Path.{_≡_, sym, ap, _∙_}
+use mathlib.Core.Bool.{Bool, true, false, cond}
+use mathlib.Core.List.{List, [], _∷_, _++_, append-nil, append-assoc}
+use Prim.Native.Nat.{ℕ, zero, suc, _+_, _-_, _*_, _≤_, _<_}
+use native.Mathlib.Omega.{arith}
+use lib.Dec.{leb}
+use lib.ListN.{length, take, length-append, length-take}
+use borrow.Author.Tests.{lt-ltb, le-leb}
+use Rattle.task.specs.Covers.{Covers}
+use Rattle.task.specs.Decode.{Decoder, got, bind, give, _▹_, number, many, counted, name, decSort, binder, dataCtor, datatype, constant, function, kvar, items, section, deepest}
+use Rattle.task.proofs.Reading.{bind-got}
+use Rattle.task.proofs.Covering.{covers-refusal, covers-give, covers-bind, covers-many, covers-number}
+use Rattle.task.proofs.Pieces.{each-covers, wide-names, wide-counted, wide-functions, wide-kvars}
+use Rattle.item_check.specs.declared.Section.{Section}
+use Rattle.item_check.specs.declared.Section.the-variants.{Comments, Datatypes, Constants, Functions, KVars}
+use Rattle.names.specs.declared.Kind.{Kind}
+use Rattle.names.specs.declared.Kind.the-variants.{Constant}
+use Rattle.names.specs.Table.{Symbol, roomFor, add}
+use Rattle.declared.specs.Symbols.{together, named, fieldSymbols, ctorSymbols, ctorsSymbols, datatypeSymbols, functionSymbols, kvarSymbols}
+use Rattle.declared.specs.Gather.{adds, itemSymbols}
+
+-- BYTES FOR SYMBOLS
+
+-- three for each
+abbrev owed : List Symbol → ℕ
+owed es = 3 * length es
+
+binders-wide : Covers (λ b. 3) (binder deepest)
+binders-wide =
+    covers-bind (λ b. 3) (λ x. 2) name _ wide-names (λ x. covers-bind (λ b. 1) (λ b. 1) (decSort deepest) _ (each-covers .sorts deepest) (λ b. covers-give (λ a. 0) _ (omega arith)))
+
+fields-wide : (n : ℕ) → Covers (λ fs. owed (fieldSymbols fs)) (many [] _∷_ (binder deepest) n)
+fields-wide n = covers-many (λ fs. owed (fieldSymbols fs)) (λ b. 3) [] _∷_ (binder deepest) (omega arith) (λ b fs. omega arith) binders-wide n
+
+ctors-wide : Covers (λ c. owed (ctorSymbols c)) dataCtor
+ctors-wide =
+    covers-bind (λ c. owed (ctorSymbols c)) (λ x. 2) name _ wide-names (λ x.
+    covers-bind (λ c. owed (ctorSymbols c) - 2) (λ fs. 2 + owed (fieldSymbols fs)) (counted [] _∷_ (binder deepest)) _ (wide-counted (λ fs. owed (fieldSymbols fs)) [] _∷_ fields-wide) (λ fs.
+    covers-give (λ c. owed (ctorSymbols c) - 2 - (2 + owed (fieldSymbols fs))) _ (omega arith)))
+
+rows-wide : (n : ℕ) → Covers (λ cs. owed (ctorsSymbols cs)) (many [] _∷_ dataCtor n)
+rows-wide n =
+    covers-many (λ cs. owed (ctorsSymbols cs)) (λ c. owed (ctorSymbols c)) [] _∷_ dataCtor (omega arith) (λ c cs. omega (arith, length-append (ctorSymbols c) (ctorsSymbols cs))) ctors-wide n
+
+datatypes-wide : Covers (λ d. owed (datatypeSymbols d)) datatype
+datatypes-wide =
+    covers-bind (λ d. owed (datatypeSymbols d)) (λ x. 2) name _ wide-names (λ x.
+    covers-bind (λ d. owed (datatypeSymbols d) - 2) (λ v. 2) (number 2) _ (covers-number 2) (λ v.
+    covers-bind (λ d. owed (datatypeSymbols d) - 2 - 2) (λ cs. 2 + owed (ctorsSymbols cs)) (counted [] _∷_ dataCtor) _ (wide-counted (λ cs. owed (ctorsSymbols cs)) [] _∷_ rows-wide) (λ cs.
+    covers-give (λ d. owed (datatypeSymbols d) - 2 - 2 - (2 + owed (ctorsSymbols cs))) _ (omega arith))))
+
+-- symbols taken of a piece
+taken-wide : {A : Type 0} (symbols : A → List Symbol) (d : Decoder A) → Covers (λ a. owed (symbols a)) d → Covers owed (d ▹ λ a. give (symbols a))
+taken-wide symbols d c = covers-bind owed (λ a. owed (symbols a)) d (λ a. give (symbols a)) c (λ a. covers-give (λ es. owed es - owed (symbols a)) (symbols a) (omega arith))
+
+items-wide : (i : Section) → Covers owed (itemSymbols i)
+unfolding itemSymbols
+items-wide Comments = covers-refusal owed 2
+items-wide Datatypes = taken-wide datatypeSymbols datatype datatypes-wide
+items-wide Constants = taken-wide (named Constant) constant binders-wide
+items-wide Functions = taken-wide functionSymbols function wide-functions
+items-wide KVars = taken-wide kvarSymbols kvar wide-kvars
+
+-- the items of a section
+module _ (i : Section) (s : List ℕ) where
+  section-owed : (n at : ℕ) (xs : List (List Symbol)) (q : ℕ) → at ≤ length s → items n (itemSymbols i) s at ≡ got xs q → owed (together xs) ≤ length s - at
+  unfolding items
+  section-owed zero at xs q h e = let z : [] ≡ xs = cc in rw (← z) (omega arith)
+  section-owed (suc n) at xs q h e = go (leb (length s) at) e (λ p ys r l g. section-owed n p ys r l g)
+    where
+      go : (t : Bool) → cond t (got [] at) (bind (itemSymbols i s at) (λ a p. bind (items n (itemSymbols i) s p) (λ b r. got (a ∷ b) r))) ≡ got xs q
+          → ((p : ℕ) (ys : List (List Symbol)) (r : ℕ) → p ≤ length s → items n (itemSymbols i) s p ≡ got ys r → owed (together ys) ≤ length s - p)
+          → owed (together xs) ≤ length s - at
+      go true e rec = let z : [] ≡ xs = cc in rw (← z) (omega arith)
+      go false e rec =
+          let x = bind-got (itemSymbols i s at) (λ a p. bind (items n (itemSymbols i) s p) (λ b r. got (a ∷ b) r)) xs q e in
+          let y = bind-got (items n (itemSymbols i) s (x .next)) (λ b r. got (x .value ∷ b) r) xs q (x .then) in
+          let u = items-wide i .covered s at (x .value) (x .next) (x .first) in
+          let b = inside at (x .next) (u .n) h (u .end) (u .inside) in
+          let k = rec (x .next) (y .value) (y .next) b (y .first) in
+          let z : x .value ∷ y .value ≡ xs = cc in
+          rw (← z) (omega (arith, length-append (x .value) (together (y .value)), u .room, u .end))
+        where
+          inside : (at p n : ℕ) → at ≤ length s → p ≡ at + n → (0 < n → p ≤ length s) → p ≤ length s
+          inside at p zero h e f = omega arith
+          inside at p (suc n) h e f = f (omega arith)
+
+-- a section of the file
+pub section-few : (file : List ℕ) (i : Section) (at end : ℕ) (xs : List (List Symbol)) (q : ℕ) → at ≤ end → end ≤ length file → section (itemSymbols i) (take end file) at ≡ got xs q
+    → 3 * length (together xs) ≤ end - at
+section-few file i at end xs q h l e =
+    let k = length-take end file in
+    omega (arith, section-owed i (take end file) (length (take end file)) at xs q (omega arith) e)
+
+-- ROOM
+
+-- where there is room for all, all are added
+pub adds-all : (n : ℕ) (es fs : List Symbol) → length es + length fs ≤ 65535 → 1026 + 3 * (length es + length fs) ≤ n → adds n es fs ≡ es ++ fs
+unfolding adds add roomFor
+adds-all n es [] h g = sym (append-nil es)
+adds-all n es (f ∷ fs) h g =
+    let k = length-append es (f ∷ []) in
+    ap (λ (gs : List Symbol). adds n gs fs) (simp (lt-ltb (length es) 65535 (omega arith), le-leb (1026 + 3 * length es + 3) n (omega arith)))
+    ∙ adds-all n (es ++ (f ∷ [])) fs (omega arith) (omega arith)
+    ∙ append-assoc es (f ∷ []) fs

@@ -1,0 +1,3 @@
+-- The names that a task declares, as the entries of a symbol table. Read in this order.
+pub mod Symbols
+pub mod Gather

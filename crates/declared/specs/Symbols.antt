@@ -1,0 +1,69 @@
+-- The names that a task declares, each with its kind, in the order of the file.
+use mathlib.Core.List.{List, [], _∷_, _++_, map}
+use Prim.Native.Nat.{ℕ}
+use mathlib.Core.Path.{_≡_}
+use mathlib.Core.Option.{none}
+use Rattle.smtlib.specs.Lexicon.{bytes}
+use Rattle.task.specs.Ast.{Sort, Sorts, Binder, Constraint, Constraints, DataCtor, DataDecl, FunDef, KVarDecl, Task}
+use Rattle.names.specs.declared.Kind.{Kind}
+use Rattle.names.specs.declared.Kind.the-variants.{Datatype, KVar, Constructor, Field, Constant, Function}
+use Rattle.names.specs.Table.{numberOf, Symbol, symbol}
+
+-- a name of a kind, and nothing else
+abbrev pub alone : Kind → List ℕ → List Symbol
+alone kind x = symbol (numberOf kind) x ∷ []
+
+-- symbols of pieces in a row
+abbrev pub together : List (List Symbol) → List Symbol
+together [] = []
+together (es ∷ rest) = es ++ together rest
+
+-- a name with its sort
+abbrev pub named : Kind → Binder → List Symbol
+named kind b = alone kind (b .name)
+
+-- fields
+abbrev pub fieldSymbols : List Binder → List Symbol
+fieldSymbols fs = together (map (named Field) fs)
+
+-- a constructor: its name, and its fields
+abbrev pub ctorSymbols : DataCtor → List Symbol
+ctorSymbols c = alone Constructor (c .name) ++ fieldSymbols (c .fields)
+
+-- constructors
+abbrev pub ctorsSymbols : List DataCtor → List Symbol
+ctorsSymbols cs = together (map ctorSymbols cs)
+
+-- a datatype: its name, and its constructors
+abbrev pub datatypeSymbols : DataDecl → List Symbol
+datatypeSymbols d = alone Datatype (d .name) ++ ctorsSymbols (d .ctors)
+
+-- a function, and a KVar: its name
+abbrev pub functionSymbols : FunDef → List Symbol
+functionSymbols f = alone Function (f .name)
+
+abbrev pub kvarSymbols : KVarDecl → List Symbol
+kvarSymbols k = alone KVar (k .kvid)
+
+-- a task: section by section
+unfoldable pub symbolsOf : Task → List Symbol
+symbolsOf t =
+    together (map datatypeSymbols (t .datatypes)) ++ (together (map (named Constant) (t .constants))
+    ++ (together (map functionSymbols (t .functions)) ++ together (map kvarSymbols (t .kvars))))
+
+-- what a task declares that has one piece of each kind: a datatype d with a constructor c of a field f, a constant x, a function g and a KVar k
+abbrev pub sample : Task
+sample = record {
+  comments = [];
+  datatypes = record { name = bytes "d"; vars = 0; ctors = record { name = bytes "c"; fields = record { name = bytes "f"; sort = Sort.int } ∷ [] } ∷ [] } ∷ [];
+  constants = record { name = bytes "x"; sort = Sort.int } ∷ [];
+  functions = record { name = bytes "g"; params = 0; inputs = Sorts.none; output = Sort.int; body = none } ∷ [];
+  kvars = record { kvid = bytes "k"; sorts = Sorts.none } ∷ [];
+  constraint = Constraint.conj Constraints.none;
+}
+
+-- Each name has its own kind. (proofs/Whole.antt: sample-symbols)
+abbrev pub SampleSymbols : Type 0
+SampleSymbols =
+    symbolsOf sample
+    ≡ symbol 0 (bytes "d") ∷ symbol 2 (bytes "c") ∷ symbol 3 (bytes "f") ∷ symbol 4 (bytes "x") ∷ symbol 5 (bytes "g") ∷ symbol 1 (bytes "k") ∷ []

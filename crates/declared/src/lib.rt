@@ -1,0 +1,163 @@
+// The names that a task declares, as entries of a symbol table in the order of the file: datatypes with their constructors and fields,
+// constants, functions, KVars. The walkers read any bytes: what they add is told for pieces that decode.
+use inspect::Bounds;
+use item_check::Section;
+use names::Kind;
+use task::Number;
+use task::SpanRead;
+use task_check::Walked;
+ghost use mathlib.Core.List.{[], _∷_};
+ghost use Prim.Native.Nat.{_+_, _≤_};
+ghost use lib.ListN.{length};
+ghost use Rattle.task.specs.Decode.{many, binder, dataCtor, datatype, deepest};
+ghost use Rattle.inspect.specs.Walk.{Inside, startOf, endOf};
+ghost use Rattle.names.specs.Change.{Blank};
+ghost use Rattle.declared.specs.Symbols.{alone, named, fieldSymbols, ctorSymbols, ctorsSymbols, datatypeSymbols};
+ghost use Rattle.declared.specs.Gather.{Ready, Collects, nameIn, itemSymbols, themselves, Gathers, Declared};
+
+// A name with its sort: the name is an entry of the kind.
+fn push_binder(s: &[u8], at: usize, kind: Kind, table: &mut [u16]) -> usize
+    requires { ⌜ Ready (now s) (now table) ⌝ }
+    ensures { λ r. ⌜ Collects (named kind) (binder deepest (now (s .entry)) at) (now (s .entry)) (now (table .entry)) (now (table .exit)) r ⌝ }
+{
+    let name = task::read_name(s, at);
+    let SpanRead::At(_, p) = name else {
+        return at;
+    };
+    names::push(s, table, at, kind);
+    let sort = task_check::check_sort(s, p, 256, false);
+    let Walked::Next(q, _) = sort else {
+        return at;
+    };
+    q
+}
+
+// n fields in a row.
+fn push_fields(s: &[u8], at: usize, n: u64, table: &mut [u16]) -> usize
+    requires { ⌜ Ready (now s) (now table) ⌝ }
+    ensures { λ r. ⌜ Collects fieldSymbols (many [] _∷_ (binder deepest) n (now (s .entry)) at) (now (s .entry)) (now (table .entry)) (now (table .exit)) r ⌝ }
+{
+    let mut p = at;
+    let mut left = n;
+    while 0 < left {
+        p = push_binder(s, p, Kind::Field, table);
+        left -= 1;
+    }
+    p
+}
+
+// A constructor with its fields.
+fn push_ctor(s: &[u8], at: usize, table: &mut [u16]) -> usize
+    requires { ⌜ Ready (now s) (now table) ⌝ }
+    ensures { λ r. ⌜ Collects ctorSymbols (dataCtor (now (s .entry)) at) (now (s .entry)) (now (table .entry)) (now (table .exit)) r ⌝ }
+{
+    let name = task::read_name(s, at);
+    let SpanRead::At(_, p) = name else {
+        return at;
+    };
+    let count = task::number_at(s, p, 2);
+    let Number::Value(n, q) = count else {
+        return at;
+    };
+    names::push(s, table, at, Kind::Constructor);
+    push_fields(s, q, n, table)
+}
+
+// n constructors in a row.
+fn push_ctors(s: &[u8], at: usize, n: u64, table: &mut [u16]) -> usize
+    requires { ⌜ Ready (now s) (now table) ⌝ }
+    ensures { λ r. ⌜ Collects ctorsSymbols (many [] _∷_ dataCtor n (now (s .entry)) at) (now (s .entry)) (now (table .entry)) (now (table .exit)) r ⌝ }
+{
+    let mut p = at;
+    let mut left = n;
+    while 0 < left {
+        p = push_ctor(s, p, table);
+        left -= 1;
+    }
+    p
+}
+
+// A datatype with its constructors.
+fn push_datatype(s: &[u8], at: usize, table: &mut [u16]) -> usize
+    requires { ⌜ Ready (now s) (now table) ⌝ }
+    ensures { λ r. ⌜ Collects datatypeSymbols (datatype (now (s .entry)) at) (now (s .entry)) (now (table .entry)) (now (table .exit)) r ⌝ }
+{
+    let name = task::read_name(s, at);
+    let SpanRead::At(_, p) = name else {
+        return at;
+    };
+    let vars = task::number_at(s, p, 2);
+    let Number::Value(_, q) = vars else {
+        return at;
+    };
+    let count = task::number_at(s, q, 2);
+    let Number::Value(n, r) = count else {
+        return at;
+    };
+    names::push(s, table, at, Kind::Datatype);
+    push_ctors(s, r, n, table)
+}
+
+// An item of which the name alone is an entry.
+fn push_named(s: &[u8], at: usize, section: Section, kind: Kind, table: &mut [u16]) -> usize
+    requires { ⌜ Ready (now s) (now table) ⌝ }
+    ensures { λ r. ⌜ Collects (alone kind) (nameIn section (now (s .entry)) at) (now (s .entry)) (now (table .entry)) (now (table .exit)) r ⌝ }
+{
+    let item = item_check::check_item(s, at, section);
+    let Walked::Next(q, _) = item else {
+        return at;
+    };
+    names::push(s, table, at, kind);
+    q
+}
+
+// An item of a section.
+fn push_item(s: &[u8], at: usize, section: Section, table: &mut [u16]) -> usize
+    requires { ⌜ Ready (now s) (now table) ⌝ }
+    ensures { λ r. ⌜ Collects themselves (itemSymbols section (now (s .entry)) at) (now (s .entry)) (now (table .entry)) (now (table .exit)) r ⌝ }
+{
+    match section {
+        Section::Comments => at,
+        Section::Datatypes => push_datatype(s, at, table),
+        Section::Constants => push_binder(s, at, Kind::Constant, table),
+        Section::Functions => push_named(s, at, section, Kind::Function, table),
+        Section::KVars => push_named(s, at, section, Kind::KVar, table),
+    }
+}
+
+// The items from a position to the section's end.
+pub fn push_section(file: &[u8], at: usize, end: usize, section: Section, table: &mut [u16])
+    requires { ⌜ Ready (now file) (now table) × (end ≤ length (now file)) ⌝ }
+    ensures { λ r. ⌜ Gathers (now (file .entry)) section at end (now (table .entry)) (now (table .exit)) ⌝ }
+{
+    let mut p = at;
+    while p < end {
+        let next = push_item(file, p, section, table);
+        if next <= p {
+            return;
+        }
+        p = next;
+    }
+}
+
+// The items of a section of the file.
+fn push_items(file: &[u8], b: Bounds, section: Section, table: &mut [u16])
+    requires { ⌜ Ready (now file) (now table) × Inside (now file) b ⌝ }
+    ensures { λ r. ⌜ Gathers (now (file .entry)) section (startOf b section) (endOf b section) (now (table .entry)) (now (table .exit)) ⌝ }
+{
+    let at = inspect::start_of(b, section);
+    let end = inspect::end_of(b, section);
+    push_section(file, at, end, section, table);
+}
+
+// Puts the names that the task declares into an empty table with as many words for entries as the file has bytes.
+pub fn declare(file: &[u8], b: Bounds, table: &mut [u16])
+    requires { ⌜ Inside (now file) b × Blank (now table) ⌝ }
+    requires { ⌜ 1026 + length (now file) ≤ length (now table) ⌝ }
+    ensures { λ r. ⌜ Declared (now (file .entry)) b (now (table .exit)) ⌝ }
+{
+    push_items(file, b, Section::Datatypes, table);
+    push_items(file, b, Section::Constants, table);
+    push_items(file, b, Section::Functions, table);
+    push_items(file, b, Section::KVars, table);
+}

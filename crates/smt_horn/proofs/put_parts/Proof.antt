@@ -1,0 +1,60 @@
+-- `put_parts`: a table by the file's length.
+use native.Mathlib.Omega.{arith}
+use Rattle.names.proofs.Theorems.{zeros-blank}
+use Rattle.smt_horn.proofs.Entries.{zeros-room}
+use borrow.Author.Needs.{needs}
+use Rattle.smt_horn.proofs.put_parts.Statement.{statement}
+use Rattle.smt_horn.proofs.put_parts.Tie as tie
+
+slice-aggregate-put-with : tie.Need-slice-aggregate-put-with
+slice-aggregate-put-with c = search needs
+
+put-with-requires : tie.Need-put-with-requires
+put-with-requires c κs = let h = c .before .before .before .before .before .pre .inside .most in ((c .before .before .before .before .before .pre, zeros-blank _ (omega arith)), zeros-room _ _ (omega arith))
+
+same-length : tie.Need-same-length
+same-length c = search needs
+
+returns : tie.Need-returns
+returns c = search needs
+
+slice-aggregate-put-with-2 : tie.Need-slice-aggregate-put-with-2
+slice-aggregate-put-with-2 c = search needs
+
+put-with-requires-2 : tie.Need-put-with-requires-2
+put-with-requires-2 c κs = let h = c .before .before .before .before .before .before .pre .inside .most in ((c .before .before .before .before .before .before .pre, zeros-blank _ (omega arith)), zeros-room _ _ (omega arith))
+
+same-length-2 : tie.Need-same-length-2
+same-length-2 c = search needs
+
+returns-2 : tie.Need-returns-2
+returns-2 c = search needs
+
+slice-aggregate-put-with-3 : tie.Need-slice-aggregate-put-with-3
+slice-aggregate-put-with-3 c = search needs
+
+put-with-requires-3 : tie.Need-put-with-requires-3
+put-with-requires-3 c κs = let h = c .before .before .before .before .before .before .pre .inside .most in ((c .before .before .before .before .before .before .pre, zeros-blank _ (omega arith)), zeros-room _ _ (omega arith))
+
+same-length-3 : tie.Need-same-length-3
+same-length-3 c = search needs
+
+returns-3 : tie.Need-returns-3
+returns-3 c = search needs
+
+pub put-parts-spec : {M : Type 1} → statement M
+put-parts-spec =
+    tie.close
+    (tie.spec
+    slice-aggregate-put-with
+    put-with-requires
+    same-length
+    returns
+    slice-aggregate-put-with-2
+    put-with-requires-2
+    same-length-2
+    returns-2
+    slice-aggregate-put-with-3
+    put-with-requires-3
+    same-length-3
+    returns-3)
