@@ -174,6 +174,15 @@ impl Limits {
         }
     }
 
+    /// As many names as a file has room for, fields of a constructor, behind the constructor and its datatype, which are looked up.
+    fn tables(&mut self) {
+        for size in [1000, 1001, 8000, 8001, LONGEST_FILE] {
+            let rest = |many: usize| format!("d: 'D #0 #1 'c #{many} {} v: 'k #1 11 'D #0 h: 0 1 17 1 11 'D #0 5 'c #0", "'x 0 ".repeat(many));
+            let many = (size - packed(&rest(0)).len() - 2) / 3;
+            self.words(&format!("names-in-{size}"), 0, &padded(size, &rest(many)));
+        }
+    }
+
     fn offsets(&mut self) {
         let sections = sections(FULL, USUAL).expect("words");
         let (body, right) = (sections.concat(), offsets(&sections));
@@ -199,6 +208,7 @@ pub fn limits() -> Vec<(String, Case)> {
     limits.numbers();
     limits.strings();
     limits.sizes();
+    limits.tables();
     limits.offsets();
     limits.0
 }
