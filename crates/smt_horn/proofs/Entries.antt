@@ -7,7 +7,7 @@ use native.Mathlib.Omega.{arith}
 use mir.Val.{Fits}
 use mir.Syntax.{w8}
 use lib.Dec.{leb, ltb}
-use lib.ListN.{length, getD, replicate, length-append, length-replicate}
+use lib.ListN.{length, getD, length-append}
 use lib.Seq.{sets}
 use borrow.Author.Tests.{le-leb, lt-leb, lt-ltb, le-ltb}
 use mathlib.Core.Logic.{⊎-elim}
@@ -100,10 +100,6 @@ heads-found file v b d h e e' t end u =
     clauses-number t ∙ z
 
 -- PUTTING PARTS
-
--- an array has room for no more than its elements
-pub zeros-room : (n m : ℕ) → m ≤ n → m ≤ length {A = ℕ} (replicate n 0)
-zeros-room n m h = let l = length-replicate {A = ℕ} n 0 in omega arith
 
 -- with a table of the declared names the parts are measured, and written if there is room
 module _ (file table : List ℕ) (b : Bounds) (a : Accepted file b) (d : Declared file b table) (r : Range) (p : Progress) (m : Measured file table b r p) where

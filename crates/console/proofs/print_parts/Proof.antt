@@ -1,8 +1,9 @@
 -- `print_parts`: inspect tells where the sections are, and the table has room for the names.
 use borrow.Author.Needs.{needs}
 use native.Mathlib.Omega.{arith}
+use lib.ListN.{length-replicate}
 use Rattle.names.proofs.Theorems.{zeros-blank}
-use Rattle.smt_horn.proofs.Entries.{accepted, zeros-room}
+use Rattle.smt_horn.proofs.Entries.{accepted}
 use Rattle.console.proofs.print_parts.Statement.{statement}
 use Rattle.console.proofs.print_parts.Tie as tie
 
@@ -22,7 +23,7 @@ slice-aggregate-declare : tie.Need-slice-aggregate-declare
 slice-aggregate-declare c = search needs
 
 declare-requires : tie.Need-declare-requires
-declare-requires c κs = let a = accepted _ _ _ _ _ (c .before .before .before .before .inspect .ensures) (c .before .before .inspected .given .1) in let h = a .inside .most in ((a .inside, zeros-blank _ (omega arith)), zeros-room _ _ (omega arith))
+declare-requires c κs = let a = accepted _ _ _ _ _ (c .before .before .before .before .inspect .ensures) (c .before .before .inspected .given .1) in let h = a .inside .most in ((a .inside, zeros-blank 61026 (omega arith)), simp length-replicate (omega arith))
 
 slice-aggregate-print-all : tie.Need-slice-aggregate-print-all
 slice-aggregate-print-all c = search needs
