@@ -89,6 +89,22 @@ const FULL: &str = "c: \"ok d: 'D #1 #1 'c #1 'f 6 #0 k: 'c 11 'D #1 0 f: 'f #0 
 /// Words for so many ForAlls with names of their own, a guard each, and the words of a constraint inside.
 pub fn nested(many: usize, inner: &str) -> String { (0..many).map(|i| format!("2 'x{i} 0 #1 1 5 'x{i} ")).collect::<String>() + inner }
 
+/// Words for ForAlls whose binders have so many bytes together: functions of functions, each 12 bytes longer than what it gives.
+fn binders(bytes: usize) -> String {
+    let (many, rest) = (bytes / 2408, bytes % 2408);
+    let one = |name: String, depth: usize| format!("2 '{name} {} 0 #0 ", "7 0 ".repeat(depth));
+    let last = (rest - 8) / 12;
+    (0..many).map(|i| one(format!("a{i}"), 200)).collect::<String>() + &one("b".repeat(rest - 6 - 12 * last), last)
+}
+
+/// Words for ForAlls whose guards have so many bytes together, a space before each: negations, each 6 bytes longer than what it negates.
+fn guards(bytes: usize) -> String {
+    let (many, rest) = (bytes / 1203, bytes % 1203);
+    let one = |i: usize, name: &str, depth: usize| format!("2 'x{i} 0 #1 1 {} 5 '{name} ", "8 ".repeat(depth));
+    let last = (rest - 3) / 6;
+    (0..many).map(|i| one(i, "gg", 200)).collect::<String>() + &one(many, &"g".repeat(rest - 1 - 6 * last), last)
+}
+
 /// Words with a comment in front that makes the file so long.
 fn padded(length: usize, rest: &str) -> String {
     let bytes = length - packed(rest).len() - 2;
@@ -183,6 +199,16 @@ impl Limits {
         }
     }
 
+    /// Paths whose binders or guards have so many bytes as text, in a file of so many bytes: heads and a ForAll under them, a shorter path behind.
+    fn paths(&mut self) {
+        for (size, bytes) in [(1000, 2048), (1000, 2049), (1001, 2049), (8000, 16_384), (8000, 16_385)] {
+            for (kind, path) in [("binders", binders(bytes)), ("guards", guards(bytes))] {
+                let words = format!("h: 1 #2 {path} 1 #3 0 K 0 1 E 2 'y 0 #1 P 0 K 2 'z 0 #2 T P 1 #2 0 1 E 0 K");
+                self.words(&format!("path-of-{bytes}-{kind}-in-{size}"), 0, &padded(size, &words));
+            }
+        }
+    }
+
     fn offsets(&mut self) {
         let sections = sections(FULL, USUAL).expect("words");
         let (body, right) = (sections.concat(), offsets(&sections));
@@ -209,6 +235,7 @@ pub fn limits() -> Vec<(String, Case)> {
     limits.strings();
     limits.sizes();
     limits.tables();
+    limits.paths();
     limits.offsets();
     limits.0
 }

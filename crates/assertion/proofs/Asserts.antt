@@ -1,47 +1,31 @@
 -- What the writers of an assertion send adds up to its text.
 use mathlib.Core.Path.{_≡_, refl, sym, ap, _∙_}
-use mathlib.Core.Bool.{Bool, true, false, cond}
-use mathlib.Core.List.{List, [], _∷_, _++_, append-nil, nil≢cons}
-use Prim.Native.Nat.{ℕ, _+_, _-_, _≤_, min}
+use mathlib.Core.Bool.{Bool, true, false, cond, _&&_}
+use mathlib.Core.List.{List, [], _∷_, _++_, append-nil}
+use Prim.Native.Nat.{ℕ, zero, suc, _+_, _-_, _≤_, min}
 use native.Mathlib.Omega.{arith}
-use lib.ListN.{length, length-append}
+use lib.Dec.{ltb, eqb}
+use lib.ListN.{length, take, getD, length-append}
+use lib.Seq.{length-take-le}
+use borrow.Author.Tests.{lt-ltb, ltb-true, ltb-false, eqb-true, eqb-false, ne-eqb}
 use Rattle.smtlib.specs.Lexicon.{bytes}
 use Rattle.smtlib.specs.Compose.{paren}
-use Rattle.task.specs.declared.PredNode.{PredNode}
-use Rattle.task.specs.declared.PredNode.the-variants as pred-node
-use Rattle.task.specs.declared.Span.{Span}
-use Rattle.task.specs.Ast.{Expr, Exprs, Pred}
-use Rattle.task.specs.Decode.{Res, got, many, decExpr, decPred}
+use Rattle.task.specs.Ast.{Exprs, Pred}
+use Rattle.task.specs.Decode.{Res, got, counted, name, predForms, decExpr, decPred}
 use Rattle.task.specs.Task.{literallyTrue}
-use Rattle.task.specs.Node.{bytesOf, predOf, PredAt}
-use Rattle.task.proofs.Reading.{bind-got}
+use Rattle.task.proofs.Reading.{bind-got, got-refuse, coded-short, coded-at, coded-beyond}
 use Rattle.smt_text.specs.Encoder.{Encoder}
-use Rattle.smt_text.specs.Text.{spaced, sexp-list, write-unary, write-expr, write-pred}
-use Rattle.horn_text.specs.Clauses.{ForAll, kept, bindersOf, guardsOf}
-use Rattle.horn_text.specs.Script.{write-preds, write-guard-conjunction, write-negation, write-implication, write-forall, write-assert}
-use Rattle.output.specs.Emit.{Output, emit, emits, Sends}
+use Rattle.smt_text.specs.Text.{spaced, sexp-list, write-unary, write-binary, write-binder, write-expr, write-pred}
+use Rattle.horn_text.specs.Clauses.{ForAll, kept, guardsOf}
+use Rattle.horn_text.specs.Script.{write-preds, write-guard-conjunction, write-implication, write-assert}
+use Rattle.smt_sort.specs.Section.{encoderIn}
+use Rattle.output.specs.Emit.{Output, emits, Sends}
 use Rattle.output.proofs.Sent.{emits-append}
-use Rattle.output.proofs.Sending.{sends-refused, sends-map}
-use Rattle.smt_fmt.proofs.Decls.{pred-at}
+use Rattle.assertion.specs.declared.Form.{Form}
+use Rattle.assertion.specs.declared.Kept as code
+use Rattle.assertion.specs.Under.{forAllAt, onPath, varsText, guardsText, counts, countAll, Counts, kvarAt, formOf, openingText, impliesText, groupText, ungroupText, beforeText, behindText, endText, headText, assertText, HeadSends}
+use Rattle.assertion.specs.Kept.{Fits, KeptSends, guardsIn}
 use Rattle.assertion.proofs.Guards.{spaced-append}
-use Rattle.assertion.specs.Under.{forAllAt, onPath, varsText, guardsText, counts, countAll, Counts, conjunctionText, negationText, kvarText, exprText, implicationText, assertText, HeadSends}
-
--- a text with others behind it
-sent-on : (o : Output) (w u v : List ℕ) → emits o (((w ++ []) ++ u) ++ v) ≡ emits (emits (emits o w) u) v
-sent-on o w u v = rw (append-nil w) (simp emits-append)
-
--- binders before an implication
-bound-text : (o : Output) (v w : List ℕ) → emits o (sexp-list (bytes "forall" ∷ paren v ∷ w ∷ [])) ≡ emits (emits (emits (emits (emits o (bytes "(forall (")) v) (bytes ") ")) w) (bytes ")")
-unfolding emits
-bound-text o v w = simp emits-append
-
--- guards before a negation
-negation-text : (o : Output) (ws : List (List ℕ)) (x : List ℕ) → emits o (32 ∷ sexp-list (bytes "and" ∷ (ws ++ write-unary (bytes "not") x ∷ [])))
-    ≡ emits (emits (emits (emits (emits o (bytes " (and")) (spaced ws)) (bytes " (not ")) x) (bytes "))")
-unfolding emits
-negation-text o ws x =
-    ap (λ (z : List ℕ). emits o (32 ∷ 40 ∷ (bytes "and" ++ z) ++ 41 ∷ [])) (spaced-append ws (write-unary (bytes "not") x ∷ []))
-    ∙ simp emits-append
 
 -- HOW MANY GUARDS
 
@@ -63,165 +47,170 @@ all-is n (f ∷ fs) h =
     rw (counts-is n (f .preds) h, length-append)
     (all-is (min (n + length (kept (f .preds))) 2) fs (omega arith) ∙ omega arith)
 
--- the position behind a path is not told
-path-zero : (s os : List ℕ) (fs : List ForAll) (q : ℕ) → onPath s os ≡ got fs q → 0 ≡ q
+number : (fs : List ForAll) (c : ℕ) → c ≡ countAll 0 fs → c ≡ min (length (guardsOf fs)) 2
+number fs c e = e ∙ all-is 0 fs (omega arith) ∙ omega arith
+
+-- THE TEXT, PIECE BY PIECE
+
+-- whether a predicate is a KVar, and whether there are ForAlls
+abbrev isKVar : Pred → Bool
+isKVar (Pred.kvar k es) = true
+isKVar (Pred.expr e) = false
+
+abbrev some : List ForAll → Bool
+some [] = false
+some (f ∷ fs) = true
+
+-- guards with what stands round them
+abbrev grouped : Encoder → Bool → ℕ → List Pred → List ℕ
+grouped enc kvar n gs = groupText kvar n ++ (spaced (write-preds enc gs) ++ ungroupText kvar n)
+
+-- sent one after the other
+pub grouped-by : (kvar : Bool) (c : ℕ) (g : List ℕ) (o o1 o2 o3 : Output) → o1 ≡ emits o (groupText kvar c) → o2 ≡ emits o1 g → o3 ≡ emits o2 (ungroupText kvar c)
+    → o3 ≡ emits o (groupText kvar c ++ (g ++ ungroupText kvar c))
+grouped-by kvar c g o o1 o2 o3 e1 e2 e3 = rw (e3, e2, e1) (simp emits-append)
+
+-- those of a KVar head
+group-kvar : (enc : Encoder) (gs : List Pred) (n : ℕ) → n ≡ min (length gs) 2 → 32 ∷ write-guard-conjunction enc gs ≡ grouped enc true n gs
+unfolding groupText ungroupText
+group-kvar enc [] n h = let z : n ≡ 0 = h ∙ omega arith in rw z
+group-kvar enc (g ∷ []) n h = let z : n ≡ 1 = h ∙ omega arith in rw (z, append-nil (write-pred enc g ++ [])) (ap (λ (w : List ℕ). 32 ∷ w) (sym (append-nil (write-pred enc g))))
+group-kvar enc (g ∷ k ∷ gs) n h = let z : n ≡ 2 = h ∙ omega arith in rw z
+
+-- those of an expression head with its negation
+negation-text : (o : Output) (ws : List (List ℕ)) (x : List ℕ) → emits o (32 ∷ sexp-list (bytes "and" ∷ (ws ++ write-unary (bytes "not") x ∷ [])))
+    ≡ emits (emits (emits (emits (emits o (bytes " (and")) (spaced ws)) (bytes " (not ")) x) (bytes "))")
+unfolding emits
+negation-text o ws x =
+    ap (λ (z : List ℕ). emits o (32 ∷ 40 ∷ (bytes "and" ++ z) ++ 41 ∷ [])) (spaced-append ws (write-unary (bytes "not") x ∷ []))
+    ∙ simp emits-append
+
+implied-false : (o : Output) (w : List ℕ) → emits o (write-binary (bytes "=>") w (bytes "false")) ≡ emits (emits (emits o (bytes "(=>")) (32 ∷ w)) (bytes " false)")
+unfolding emits
+implied-false o w = simp emits-append
+
+-- the form of an assertion
+abbrev form : Bool → Bool → ℕ → Form
+form kvar bound n = record { kvar = kvar; bound = bound; count = n }
+
+-- an implication, with what closes the assertion behind it
+implies-head : (enc : Encoder) (n : ℕ) (o : Output) (bound : Bool) (gs : List Pred) (p : Pred) → n ≡ min (length gs) 2
+    → emits (emits o (write-implication enc gs p)) (endText bound)
+    ≡ emits (emits (emits o (bytes "(=>")) (grouped enc (isKVar p) n gs)) (headText enc (form (isKVar p) bound n) p)
+unfolding emits write-implication groupText ungroupText headText beforeText behindText write-pred
+implies-head enc n o bound gs (Pred.kvar k es) h = rw (← group-kvar enc gs n h) (simp emits-append)
+implies-head enc n o bound [] (Pred.expr e) h = let z : n ≡ 0 = h ∙ omega arith in rw z (simp emits-append)
+implies-head enc n o bound (g ∷ gs) (Pred.expr e) h =
+    let z : eqb n 0 ≡ false = ne-eqb n 0 (λ y. absurd (omega arith)) in
+    let ws = write-preds enc (g ∷ gs) in
+    let x = write-expr enc e in
+    ap (λ (u : Output). emits u (endText bound)) (implied-false o (sexp-list (bytes "and" ∷ (ws ++ write-unary (bytes "not") x ∷ []))))
+    ∙ rw (negation-text (emits o (bytes "(=>")) ws x, z, append-nil (spaced ws)) (simp emits-append)
+
+-- a text with others behind it
+sent-on : (o : Output) (w u v : List ℕ) → emits o (((w ++ []) ++ u) ++ v) ≡ emits (emits (emits o w) u) v
+sent-on o w u v = rw (append-nil w) (simp emits-append)
+
+-- binders before an implication
+bound-text : (o : Output) (v w : List ℕ) → emits o (sexp-list (bytes "forall" ∷ paren v ∷ w ∷ [])) ≡ emits (emits (emits (emits (emits o (bytes "(forall (")) v) (bytes ") ")) w) (bytes ")")
+unfolding emits
+bound-text o v w = simp emits-append
+
+-- an assertion: without binders, and with
+whole : (enc : Encoder) (n : ℕ) (o : Output) (fs : List ForAll) (p : Pred) → n ≡ min (length (guardsOf fs)) 2
+    → emits o (assertText enc fs p)
+    ≡ emits (emits (emits (emits (emits o (openingText (some fs))) (varsText enc fs)) (impliesText (some fs))) (grouped enc (isKVar p) n (guardsOf fs))) (headText enc (form (isKVar p) (some fs) n) p)
+unfolding assertText write-assert varsText openingText impliesText endText emits
+whole enc n o [] p h = sent-on (emits o (bytes "(assert ")) (write-implication enc [] p) (bytes ")") (bytes "\n") ∙ implies-head enc n (emits o (bytes "(assert ")) false [] p h
+whole enc n o (f ∷ fs) p h =
+    let gs = guardsOf (f ∷ fs) in
+    let v = varsText enc (f ∷ fs) in
+    let i = write-implication enc gs p in
+    let o1 = emits o (bytes "(assert ") in
+    sent-on o1 (sexp-list (bytes "forall" ∷ paren v ∷ i ∷ [])) (bytes ")") (bytes "\n") ∙ ap (λ (z : Output). emits (emits z (bytes ")")) (bytes "\n")) (bound-text o1 v i)
+    ∙ implies-head enc n (emits (emits (emits o1 (bytes "(forall (")) v) (bytes ") ")) true gs p h
+
+-- a head, and what stands round it
+pub head-sends : (enc : Encoder) (f : Form) (r : ℕ) (d : Res Pred) (o o1 o2 o3 o4 : Output) → o1 ≡ emits o (beforeText (f .kvar)) → Sends (write-pred enc) d o1 o2 r
+    → o3 ≡ emits o2 (behindText (f .kvar) (f .count)) → o4 ≡ emits o3 (endText (f .bound)) → Sends (headText enc f) d o o4 r
+unfolding Sends headText
+head-sends enc f r d o o1 o2 o3 o4 e1 w e3 e4 a p h =
+    let v = w a p h in
+    (v .0, rw (e4, e3, v .1, e1) (simp emits-append))
+
+-- WHAT A HEAD IS
+
+-- a predicate whose code is 0 is a KVar
+kvar-is : (l : ℕ) (s : List ℕ) (at : ℕ) (p : Pred) (q : ℕ) → decPred l s at ≡ got p q → kvarAt s at ≡ isKVar p
+unfolding decPred
+kvar-is zero s at p q e = got-refuse (sym e)
+kvar-is (suc l) s at p q e = by (ltb at (length s)) (eqb (getD s at 0) 0) (eqb (getD s at 0) 1) refl refl refl
+  where
+    by : (a b c : Bool) → ltb at (length s) ≡ a → eqb (getD s at 0) 0 ≡ b → eqb (getD s at 0) 1 ≡ c → (a && b) ≡ isKVar p
+    by false b c ea eb ec = got-refuse (sym e ∙ coded-short (predForms (decExpr l)) s at (ltb-false at (length s) ea))
+    by true true c ea eb ec =
+        let f = sym (coded-at (predForms (decExpr l)) s at 0 (ltb-true at (length s) ea) (eqb-true (getD s at 0) 0 eb)) ∙ e in
+        let i = bind-got (name s (at + 1)) _ p q f in
+        let j = bind-got (counted Exprs.none Exprs.more (decExpr l) s (i .next)) _ p q (i .then) in
+        let y : Pred.kvar (i .value) (j .value) ≡ p = cc in
+        ap isKVar y
+    by true false true ea eb ec =
+        let f = sym (coded-at (predForms (decExpr l)) s at 1 (ltb-true at (length s) ea) (eqb-true (getD s at 0) 1 ec)) ∙ e in
+        let i = bind-got (decExpr l s (at + 1)) _ p q f in
+        let y : Pred.expr (i .value) ≡ p = cc in
+        ap isKVar y
+    by true false false ea eb ec =
+        let n0 = eqb-false (getD s at 0) 0 eb in
+        let n1 = eqb-false (getD s at 0) 1 ec in
+        got-refuse (sym e ∙ coded-beyond (predForms (decExpr l)) s at (ltb-true at (length s) ea) (omega arith))
+
+-- there are ForAlls where there is text of their binders
+vars-some : (enc : Encoder) (fs : List ForAll) (text : List ℕ) (v : ℕ) → v ≤ length text → take v text ≡ varsText enc fs → ltb 0 v ≡ some fs
+unfolding varsText write-binder
+vars-some enc [] text v h e = let n : v ≡ 0 = sym (length-take-le v text h) ∙ ap length e in rw n
+vars-some enc (f ∷ fs) text v h e = let n : v ≡ length (varsText enc (f ∷ fs)) = sym (length-take-le v text h) ∙ ap length e in lt-ltb 0 v (omega arith)
+
+-- and where there are offsets
+path-some : (s os : List ℕ) (fs : List ForAll) (q : ℕ) → onPath s os ≡ got fs q → ltb 0 (length os) ≡ some fs
 unfolding onPath
-path-zero s [] fs q e = cc
-path-zero s (o ∷ os) fs q e =
+path-some s [] fs q e = let y : [] ≡ fs = cc in ap some y
+path-some s (o ∷ os) fs q e =
     let i = bind-got (forAllAt s o) _ fs q e in
     let j = bind-got (onPath s os) _ fs q (i .then) in
-    path-zero s os (j .value) (j .next) (j .first) ∙ (cc)
-
--- GUARDS
-
--- the conjunction by the number of guards
-module _ (enc : Encoder) where
-  conj-zero : (gs : List Pred) → 0 ≡ min (length gs) 2 → write-guard-conjunction enc gs ≡ bytes "true"
-  conj-zero [] h = refl
-  conj-zero (g ∷ gs) h = absurd (omega arith)
-
-  conj-single : (gs : List Pred) → 1 ≡ min (length gs) 2 → 32 ∷ write-guard-conjunction enc gs ≡ spaced (write-preds enc gs)
-  conj-single [] h = absurd (omega arith)
-  conj-single (g ∷ []) h = ap (λ (w : List ℕ). 32 ∷ w) (sym (append-nil (write-pred enc g)))
-  conj-single (g ∷ k ∷ gs) h = absurd (omega arith)
-
-  conj-several : (gs : List Pred) (c : ℕ) → c ≡ min (length gs) 2 → (c ≡ 0 → ⊥) → (c ≡ 1 → ⊥)
-      → write-guard-conjunction enc gs ≡ sexp-list (bytes "and" ∷ write-preds enc gs)
-  conj-several [] c h z o = absurd (z (h ∙ omega arith))
-  conj-several (g ∷ []) c h z o = absurd (o (h ∙ omega arith))
-  conj-several (g ∷ k ∷ gs) c h z o = refl
-
-  neg-several : (gs : List Pred) (c : ℕ) → c ≡ min (length gs) 2 → (c ≡ 0 → ⊥) → (w : List ℕ)
-      → write-negation enc gs w ≡ sexp-list (bytes "and" ∷ (write-preds enc gs ++ w ∷ []))
-  neg-several [] c h z w = absurd (z (h ∙ omega arith))
-  neg-several (g ∷ gs) c h z w = refl
-
-neg-zero : (gs : List Pred) → 0 ≡ min (length gs) 2 → gs ≡ []
-neg-zero [] h = refl
-neg-zero (g ∷ gs) h = absurd (omega arith)
-
-module _ (enc : Encoder) (s os : List ℕ) (c : ℕ) (k : Counts countAll (onPath s os) 0 c) where
-  -- the guards of the path are as many as were counted
-  number : (fs : List ForAll) (q : ℕ) → onPath s os ≡ got fs q → c ≡ min (length (guardsOf fs)) 2
-  unfolding Counts
-  number fs q e = k fs q e ∙ all-is 0 fs (omega arith) ∙ omega arith
-
-  pub conj-none : (o o' : Output) → c ≡ 0 → o' ≡ emits o (bytes " true") → Sends (conjunctionText enc) (onPath s os) o o' 0
-  unfolding Sends conjunctionText
-  conj-none o o' z e fs q g = (path-zero s os fs q g, e ∙ rw (conj-zero enc (guardsOf fs) (sym z ∙ number fs q g)))
-
-  pub conj-one : (o o' : Output) → c ≡ 1 → Sends (guardsText enc) (onPath s os) o o' 0 → Sends (conjunctionText enc) (onPath s os) o o' 0
-  unfolding Sends conjunctionText guardsText
-  conj-one o o' z w fs q g = let v = w fs q g in (v .0, v .1 ∙ ap (emits o) (sym (conj-single enc (guardsOf fs) (sym z ∙ number fs q g))))
-
-  pub conj-more : (o o1 o2 o3 : Output) → (c ≡ 0 → ⊥) → (c ≡ 1 → ⊥) → o1 ≡ emits o (bytes " (and") → Sends (guardsText enc) (onPath s os) o1 o2 0
-      → o3 ≡ emit o2 41 → Sends (conjunctionText enc) (onPath s os) o o3 0
-  unfolding Sends conjunctionText guardsText emits
-  conj-more o o1 o2 o3 z z1 e1 w e3 fs q g =
-      let v = w fs q g in
-      (v .0, rw (e3, v .1, e1, conj-several enc (guardsOf fs) c (number fs q g) z z1) (simp emits-append))
-
-  module _ (d : Res Expr) (r : ℕ) where
-    pub negation-none : (o o1 o2 o3 : Output) → c ≡ 0 → o1 ≡ emits o (bytes " (not ") → Sends (write-expr enc) d o1 o2 r → o3 ≡ emit o2 41
-        → HeadSends (negationText enc) (onPath s os) d o o3 r
-    unfolding HeadSends Sends negationText emits
-    negation-none o o1 o2 o3 z e1 w e3 fs q g a p h =
-        let v = w a p h in
-        (v .0, rw (e3, v .1, e1, neg-zero (guardsOf fs) (sym z ∙ number fs q g)) (simp emits-append))
-
-    pub negation-some : (o o1 o2 o3 o4 o5 : Output) → (c ≡ 0 → ⊥) → o1 ≡ emits o (bytes " (and") → Sends (guardsText enc) (onPath s os) o1 o2 0
-        → o3 ≡ emits o2 (bytes " (not ") → Sends (write-expr enc) d o3 o4 r → o5 ≡ emits o4 (bytes "))") → HeadSends (negationText enc) (onPath s os) d o o5 r
-    unfolding HeadSends Sends negationText guardsText emits
-    negation-some o o1 o2 o3 o4 o5 z e1 u e3 w e5 fs q g a p h =
-        let v = w a p h in
-        (v .0, rw (e5, v .1, e3, u fs q g .1, e1, neg-several enc (guardsOf fs) c (number fs q g) z) (sym (negation-text o (write-preds enc (guardsOf fs)) (write-expr enc a))))
-
--- HEADS
-
-module _ (enc : Encoder) (s os : List ℕ) (r : ℕ) where
-  pub kvar-head : (d : Res Pred) (o o1 o2 o3 o4 o5 : Output) → o1 ≡ emits o (bytes "(=>") → Sends (conjunctionText enc) (onPath s os) o1 o2 0
-      → o3 ≡ emit o2 32 → Sends (write-pred enc) d o3 o4 r → o5 ≡ emit o4 41 → HeadSends (kvarText enc) (onPath s os) d o o5 r
-  unfolding HeadSends Sends conjunctionText kvarText emits
-  kvar-head d o o1 o2 o3 o4 o5 e1 u e3 w e5 fs q g a p h =
-      let v = w a p h in
-      (v .0, rw (e5, v .1, e3, u fs q g .1, e1) (simp emits-append))
-
-  pub expr-head : (d : Res Expr) (o o1 o2 o3 : Output) → o1 ≡ emits o (bytes "(=>") → HeadSends (negationText enc) (onPath s os) d o1 o2 r
-      → o3 ≡ emits o2 (bytes " false)") → HeadSends (exprText enc) (onPath s os) d o o3 r
-  unfolding HeadSends Sends negationText exprText write-implication emits
-  expr-head d o o1 o2 o3 e1 w e3 fs q g a p h =
-      let v = w fs q g a p h in
-      (v .0, rw (e3, v .1, e1) (simp emits-append))
-
-  module _ (l at : ℕ) (o o' : Output) where
-    pub head-none : l ≡ 0 → HeadSends (implicationText enc) (onPath s os) (decPred l s at) o o' r
-    unfolding HeadSends decPred
-    head-none z fs q g = rw z (sends-refused (implicationText enc fs) o o' r 3)
-
-    module _ (n : PredNode) (z : l ≡ 0 → ⊥) (h : PredAt s at n) where
-      pub head-refused : n ≡ pred-node.Refused → HeadSends (implicationText enc) (onPath s os) (decPred l s at) o o' r
-      unfolding HeadSends predOf
-      head-refused e fs q g = rw (pred-at l s at n pred-node.Refused z h e) (sends-refused (implicationText enc fs) o o' r 2)
-
-      pub head-kvar : (x : Span) (k p : ℕ) → n ≡ pred-node.KVar x k p → HeadSends (kvarText enc) (onPath s os) (decPred l s at) o o' r
-          → HeadSends (implicationText enc) (onPath s os) (decPred l s at) o o' r
-      unfolding HeadSends Sends predOf kvarText implicationText write-implication
-      head-kvar x k p e w fs q g a t f =
-          let v = w fs q g a t f in
-          let i = bind-got (many Exprs.none Exprs.more (decExpr (l - 1)) k s p) (λ es t'. got (Pred.kvar (bytesOf s x) es) t') a t (sym (pred-at l s at n (pred-node.KVar x k p) z h e) ∙ f) in
-          let y : Pred.kvar (bytesOf s x) (i .value) ≡ a = cc in
-          (v .0, v .1 ∙ rw (← y))
-
-      pub head-expr : (p : ℕ) → n ≡ pred-node.Expr p → HeadSends (exprText enc) (onPath s os) (decExpr (l - 1) s p) o o' r
-          → HeadSends (implicationText enc) (onPath s os) (decPred l s at) o o' r
-      unfolding HeadSends predOf exprText implicationText
-      head-expr p e w fs q g =
-          rw (pred-at l s at n (pred-node.Expr p) z h e)
-          (sends-map (implicationText enc fs) Pred.expr (decExpr (l - 1) s p) o o' r (w fs q g))
+    let y : i .value ∷ j .value ≡ fs = cc in
+    lt-ltb 0 (suc (length os)) (omega arith) ∙ ap some y
 
 -- ASSERTIONS
 
--- a path with offsets has ForAlls
-some-around : (s os : List ℕ) (fs : List ForAll) (q : ℕ) → (length os ≡ 0 → ⊥) → onPath s os ≡ got fs q → fs ≡ [] → ⊥
-unfolding onPath
-some-around s [] fs q z e h = z refl
-some-around s (o ∷ os) fs q z e h =
-    let i = bind-got (forAllAt s o) _ fs q e in
-    let j = bind-got (onPath s os) _ fs q (i .then) in
-    let y : i .value ∷ j .value ≡ [] = cc in
-    nil≢cons (sym y)
+module _ (s enc : List ℕ) (l at r : ℕ) (n c : ℕ) (f : Form) (ef : f ≡ formOf s at n c) (o o1 o2 o3 o4 o5 : Output)
+    (e1 : o1 ≡ emits o (openingText (f .bound))) (e3 : o3 ≡ emits o2 (impliesText (f .bound)))
+    (w : Sends (headText (encoderIn s enc) f) (decPred l s at) o4 o5 r) where
+  -- given what stands round the head
+  around : (fs : List ForAll) → ltb 0 n ≡ some fs → c ≡ countAll 0 fs → o2 ≡ emits o1 (varsText (encoderIn s enc) fs)
+      → o4 ≡ emits o3 (groupText (f .kvar) c ++ (guardsText (encoderIn s enc) fs ++ ungroupText (f .kvar) c))
+      → Sends (assertText (encoderIn s enc) fs) (decPred l s at) o o5 r
+  unfolding Sends guardsText
+  around fs eb ec e2 e4 p q h =
+      let v = w p q h in
+      let k : f ≡ form (isKVar p) (some fs) c = ef ∙ rw (eb, kvar-is l s at p q h) in
+      (v .0, v .1 ∙ rw (e4, e3, e2, e1, k) (sym (whole (encoderIn s enc) c o fs p (number fs c ec))))
 
--- with ForAlls around there are binders
-quantified : (enc : Encoder) (fs : List ForAll) (w : List ℕ) → (fs ≡ [] → ⊥)
-    → write-forall enc (bindersOf fs) w ≡ sexp-list (bytes "forall" ∷ paren (varsText enc fs) ∷ w ∷ [])
-unfolding varsText
-quantified enc [] w z = absurd (z refl)
-quantified enc (f ∷ fs) w z = refl
+  -- from what is kept
+  pub kept-asserts : (text : List ℕ) (k : code.Kept) → Fits text k → n ≡ k .vars → c ≡ k .count → o2 ≡ emits o1 (take (k .vars) text)
+      → o4 ≡ emits o3 (groupText (f .kvar) (k .count) ++ (guardsIn text k ++ ungroupText (f .kvar) (k .count)))
+      → KeptSends s enc text k (decPred l s at) o o5 r
+  unfolding KeptSends
+  kept-asserts text k h en ec e2 e4 fs g =
+      let f0 = h .inside-vars in
+      let f1 = h .inside-guards in
+      let f2 = h .inside in
+      around fs (rw en (vars-some (encoderIn s enc) fs text (k .vars) (omega arith) (g .vars-are))) (ec ∙ g .count-is) (e2 ∙ ap (emits o1) (g .vars-are))
+      (e4 ∙ rw (g .guards-are, ec))
 
-no-offsets : (os : List ℕ) → length os ≡ 0 → os ≡ []
-no-offsets [] z = refl
-no-offsets (o ∷ os) z = absurd (omega arith)
-
-module _ (enc : Encoder) (s a : List ℕ) (r : ℕ) (d : Res Pred) where
-  pub assert-bare : (o o1 o2 o3 : Output) → length a ≡ 0 → o1 ≡ emits o (bytes "(assert ") → HeadSends (implicationText enc) (onPath s a) d o1 o2 r
-      → o3 ≡ emits o2 (bytes ")\n") → HeadSends (assertText enc) (onPath s a) d o o3 r
-  unfolding HeadSends Sends implicationText assertText write-assert emits onPath
-  assert-bare o o1 o2 o3 z e1 w e3 fs q g x p h =
-      let v = w fs q g x p h in
-      let y : got [] 0 ≡ got fs q = rw (no-offsets a z) at g in
-      let f : [] ≡ fs = cc in
-      (v .0, rw (e3, v .1, e1, ← f) (sym (sent-on (emits o (bytes "(assert ")) (write-implication enc [] x) (bytes ")") (bytes "\n"))))
-
-  pub assert-bound : (o o1 o2 o3 o4 o5 o6 : Output) → (length a ≡ 0 → ⊥) → o1 ≡ emits o (bytes "(assert ") → o2 ≡ emits o1 (bytes "(forall (")
-      → Sends (varsText enc) (onPath s a) o2 o3 0 → o4 ≡ emits o3 (bytes ") ") → HeadSends (implicationText enc) (onPath s a) d o4 o5 r
-      → o6 ≡ emits o5 (bytes "))\n") → HeadSends (assertText enc) (onPath s a) d o o6 r
-  unfolding HeadSends Sends implicationText assertText write-assert emits
-  assert-bound o o1 o2 o3 o4 o5 o6 z e1 e2 u e4 w e6 fs q g x p h =
-      let v = w fs q g x p h in
-      let y = some-around s a fs q z g in
-      let i = write-implication enc (guardsOf fs) x in
-      let t = sexp-list (bytes "forall" ∷ paren (varsText enc fs) ∷ i ∷ []) in (
-        v .0,
-        rw (e6, v .1, e4, u fs q g .1, e2, e1, quantified enc fs i y)
-            (sym (sent-on (emits o (bytes "(assert ")) t (bytes ")") (bytes "\n") ∙ ap (λ (z : Output). emits (emits z (bytes ")")) (bytes "\n")) (bound-text (emits o (bytes "(assert ")) (varsText enc fs) i))),
-      )
+  -- from a path
+  pub long-asserts : (os : List ℕ) (o6 o7 : Output) → n ≡ length os → Counts countAll (onPath s os) 0 c
+      → Sends (varsText (encoderIn s enc)) (onPath s os) o1 o2 0 → o6 ≡ emits o3 (groupText (f .kvar) c) → Sends (guardsText (encoderIn s enc)) (onPath s os) o6 o7 0
+      → o4 ≡ emits o7 (ungroupText (f .kvar) c) → HeadSends (assertText (encoderIn s enc)) (onPath s os) (decPred l s at) o o5 r
+  unfolding HeadSends Sends Counts
+  long-asserts os o6 o7 en k u e6 w7 e4 fs q g =
+      around fs (rw en (path-some s os fs q g)) (k fs q g) (u fs q g .1) (rw (e4, w7 fs q g .1, e6) (simp emits-append))

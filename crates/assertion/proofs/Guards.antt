@@ -7,8 +7,11 @@ use native.Mathlib.Numerals.{add-one}
 use native.Mathlib.Omega.{arith}
 use lib.Dec.{leb, eqb}
 use lib.ListN.{length, drop, getD, drop-of-length-le}
-use lib.Seq.{drop-cons}
+use lib.Seq.{drop-cons, getD-take}
 use borrow.Author.Tests.{le-leb, lt-leb, leb-true, eqb-true, ne-eqb}
+use Rattle.path.specs.declared.Path.{Path}
+use Rattle.path.specs.Offsets.{entries, Leaves}
+use Rattle.path.proofs.Entries.{depth-is}
 use Rattle.task.specs.declared.Fault.{Fault}
 use Rattle.task.specs.declared.Number.{Number}
 use Rattle.task.specs.declared.Number.the-variants as number-is
@@ -32,7 +35,7 @@ use Rattle.task.proofs.Running.{runs-refused, runs-end, Steps, Owing, owing-sta
 use Rattle.output.specs.Emit.{Output, emit, emits, Sends}
 use Rattle.output.proofs.Sent.{emits-append}
 use Rattle.output.proofs.Sending.{sends-end}
-use Rattle.assertion.specs.Under.{forAllAt, onPath, varsText, keptText, ownText, guardsText, count, counts, countOwn, countAll, Counts, Passes, trueAt}
+use Rattle.assertion.specs.Under.{forAllAt, onPath, varsText, keptText, ownText, guardsText, count, counts, Counts, Passes, trueAt}
 
 -- PATHS
 
@@ -56,6 +59,17 @@ module _ {W : Type 0} {one : W → ForAll → W} {all : W → List ForAll → W}
   along-end i w g l =
       let e : drop i a ≡ [] = drop-of-length-le a {i = i} g in
       owing-end steps (onPath s a) first 0 w (subst (λ (os : List ℕ). Owing steps (onPath s a) first (onPath s os) w) e l)
+
+-- the same of a path by value, at whose offsets the code looks
+module _ {W : Type 0} {one : W → ForAll → W} {all : W → List ForAll → W} (steps : Steps [] _∷_ one all) (s : List ℕ) (p : Path) (first : W) (h : Leaves p 0) where
+  pub along-offset : (i at : ℕ) (w w' : W) → i < p .depth → at ≡ getD (p .offsets) i 0 → Along steps s (entries p) first i w → Runs one (forAllAt s at) w w' 0
+      → Along steps s (entries p) first (i + 1) w'
+  along-offset i at w w' g e l u =
+      along-more steps s (entries p) first i w w' (rw (depth-is p 0 h) g) l
+      (subst (λ (o : ℕ). Runs one (forAllAt s o) w w' 0) (e ∙ sym (getD-take (p .depth) (p .offsets) i 0 g)) u)
+
+  pub along-done : (i : ℕ) (w : W) → p .depth ≤ i → Along steps s (entries p) first i w → Runs all (onPath s (entries p)) first w 0
+  along-done i w g l = along-end steps s (entries p) first i w (rw (depth-is p 0 h) g) l
 
 -- ROWS OF PREDICATES
 
@@ -211,20 +225,6 @@ pub counts-steps : Steps [] _∷_ count counts
 unfolding counts
 counts-steps = record { none = λ n. refl; step = λ n p ps. refl }
 
-pub all-steps : Steps [] _∷_ countOwn countAll
-unfolding countAll
-all-steps = record { none = λ n. refl; step = λ n f fs. refl }
-
--- 2 stays 2
-full-one : (t : Bool) → cond t 2 (min (2 + 1) 2) ≡ 2
-full-one true = refl
-full-one false = refl
-
-full-row : (ps : List Pred) → counts 2 ps ≡ 2
-unfolding counts
-full-row [] = refl
-full-row (p ∷ ps) = rw (full-one (literallyTrue p)) (full-row ps)
-
 -- AT AN OFFSET
 
 -- a ForAll part by part: its binder, the number of its predicates, and these
@@ -319,21 +319,3 @@ count-refused x v n r at k e e' = walk-refused count predFault x v n r at k e e'
 pub runs-counts : {A : Type 0} (run : ℕ → A → ℕ) (x : Res A) (n r p : ℕ) → Runs run x n r p → Counts run x n r
 unfolding Counts
 runs-counts run x n r p u a q e = u a q e .1
-
-pub counts-runs : {A : Type 0} (run : ℕ → A → ℕ) (x : Res A) (n r : ℕ) → Counts run x n r → ((a : A) (q : ℕ) → x ≡ got a q → 0 ≡ q) → Runs run x n r 0
-unfolding Counts
-counts-runs run x n r u h a q e = (h a q e, u a q e)
-
--- the position behind a ForAll is not told
-pub for-all-zero : (s : List ℕ) (o : ℕ) (f : ForAll) (q : ℕ) → forAllAt s o ≡ got f q → 0 ≡ q
-for-all-zero s o f q e = sym (parts s o f q e .zero-is)
-
--- so that what is left of the path need not be counted
-pub along-full : (s a : List ℕ) (i w : ℕ) → w ≡ 2 → i < length a → Along all-steps s a 0 i w → Counts countAll (onPath s a) 0 2
-along-full s a i w e h l = runs-counts countAll (onPath s a) 0 2 0 (go (length a - i) i (omega arith) (subst (Along all-steps s a 0 i) e l))
-  where
-    go : (k i : ℕ) → i + k ≡ length a → Along all-steps s a 0 i 2 → Runs countAll (onPath s a) 0 2 0
-    go zero i e l = along-end all-steps s a 0 i 2 (omega arith) l
-    go (suc k) i e l =
-        go k (i + 1) (omega arith)
-        (along-more all-steps s a 0 i 2 2 (omega arith) l (λ f q g. (for-all-zero s (getD a i 0) f q g, sym (full-row (f .preds)))))

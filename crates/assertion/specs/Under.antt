@@ -1,20 +1,20 @@
 -- What stands at the offsets of a path, and what the writers of an assertion send for it.
 use Prim.Native.Nat.{ℕ, _+_, min}
-use Prim.Native.Char.{code}
 use mathlib.Core.Bool.{Bool, cond, _&&_}
-use mathlib.Core.List.{List, [], _∷_}
+use mathlib.Core.List.{List, [], _∷_, _++_}
 use mathlib.Core.Path.{_≡_}
-use lib.Dec.{leb, eqb}
+use lib.Dec.{leb, ltb, eqb}
 use lib.ListN.{length, getD}
-use Rattle.task.specs.Ast.{Expr, Pred}
+use Rattle.task.specs.Ast.{Pred}
 use Rattle.task.specs.Decode.{Res, got, bind, counted, binder, decPred, deepest}
 use Rattle.task.specs.Task.{literallyTrue}
 use Rattle.smtlib.specs.Lexicon.{bytes}
 use Rattle.smt_text.specs.Encoder.{Encoder}
-use Rattle.smt_text.specs.Text.{spaced, write-unary, write-binary, write-binders, write-expr, write-pred}
+use Rattle.smt_text.specs.Text.{spaced, write-binders, write-pred}
 use Rattle.horn_text.specs.Clauses.{ForAll, kept, bindersOf, guardsOf, clauseOf}
-use Rattle.horn_text.specs.Script.{join, write-preds, write-guard-conjunction, write-negation, write-implication, write-assert}
+use Rattle.horn_text.specs.Script.{join, write-preds, write-assert}
 use Rattle.task.specs.Run.{Runs}
+use Rattle.assertion.specs.declared.Form.{Form}
 use Rattle.output.specs.Emit.{Output, Sends}
 
 -- the ForAll whose name stands at an offset; where it ends does not matter
@@ -73,25 +73,47 @@ Passes run d n r at = Runs run d n r at
 abbrev pub trueAt : List ℕ → ℕ → Bool
 trueAt s at = leb (at + 3) (length s) && eqb (getD s at 0) 1 && eqb (getD s (at + 1) 0) 1 && eqb (getD s (at + 2) 0) 1
 
--- the guards of a path before a KVar head, a space before them
-unfoldable pub conjunctionText : Encoder → List ForAll → List ℕ
-conjunctionText enc fs = code " " ∷ write-guard-conjunction enc (guardsOf fs)
+-- AN ASSERTION, ROUND ITS BINDERS AND GUARDS
 
--- the guards of a path with the negation of an expression head, a space before them
-unfoldable pub negationText : Encoder → List ForAll → Expr → List ℕ
-negationText enc fs e = code " " ∷ write-negation enc (guardsOf fs) (write-unary (bytes "not") (write-expr enc e))
+-- a KVar stands there
+abbrev pub kvarAt : List ℕ → ℕ → Bool
+kvarAt s at = ltb at (length s) && eqb (getD s at 0) 0
 
--- the implication of a KVar head
-unfoldable pub kvarText : Encoder → List ForAll → Pred → List ℕ
-kvarText enc fs p = write-binary (bytes "=>") (write-guard-conjunction enc (guardsOf fs)) (write-pred enc p)
+-- the form of an assertion; there are no binders where their number or length is 0
+abbrev pub formOf : List ℕ → ℕ → ℕ → ℕ → Form
+formOf s at binders n = record { kvar = kvarAt s at; bound = ltb 0 binders; count = n }
 
--- that of an expression head
-unfoldable pub exprText : Encoder → List ForAll → Expr → List ℕ
-exprText enc fs e = write-implication enc (guardsOf fs) (Pred.expr e)
+-- what stands before the binders
+unfoldable pub openingText : Bool → List ℕ
+openingText bound = cond bound (bytes "(assert (forall (") (bytes "(assert ")
 
--- that of any head
-unfoldable pub implicationText : Encoder → List ForAll → Pred → List ℕ
-implicationText enc fs p = write-implication enc (guardsOf fs) p
+-- what stands between the binders and what the guards need
+unfoldable pub impliesText : Bool → List ℕ
+impliesText bound = cond bound (bytes ") (=>") (bytes "(=>")
+
+-- before the guards of a KVar head: `true` for none, nothing before one alone, `and` before more; of an expression head: `and` before any
+unfoldable pub groupText : Bool → ℕ → List ℕ
+groupText kvar n = cond (eqb n 0) (cond kvar (bytes " true") []) (cond (kvar && eqb n 1) [] (bytes " (and"))
+
+-- behind the guards of a KVar head, if `and` stands before them
+unfoldable pub ungroupText : Bool → ℕ → List ℕ
+ungroupText kvar n = cond (kvar && ltb 1 n) (bytes ")") []
+
+-- before the head: an expression is negated
+unfoldable pub beforeText : Bool → List ℕ
+beforeText kvar = cond kvar (bytes " ") (bytes " (not ")
+
+-- behind it: false is implied by the negation of an expression, with guards under one `and`
+unfoldable pub behindText : Bool → ℕ → List ℕ
+behindText kvar n = cond kvar (bytes ")") (cond (eqb n 0) (bytes ") false)") (bytes ")) false)"))
+
+-- what closes an assertion
+unfoldable pub endText : Bool → List ℕ
+endText bound = cond bound (bytes "))\n") (bytes ")\n")
+
+-- from the head on
+unfoldable pub headText : Encoder → Form → Pred → List ℕ
+headText enc f p = beforeText (f .kvar) ++ (write-pred enc p ++ (behindText (f .kvar) (f .count) ++ endText (f .bound)))
 
 -- the assertion of a head
 unfoldable pub assertText : Encoder → List ForAll → Pred → List ℕ

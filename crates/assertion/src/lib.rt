@@ -1,20 +1,22 @@
-// The writer of one assertion, `write_assert` of `smt_horn.rs`, from the offsets of the ForAlls around the head, or from the text that is kept
-// of them. The writers read any bytes: what they send is told for a path whose offsets are those of ForAlls, and for a head that decodes.
+// The writer of one assertion, `write_assert` of `smt_horn.rs`, from the text that is kept of the ForAlls around the head, or from their
+// offsets where that text had no room. The writers read any bytes: what they send is told for a path whose offsets are those of ForAlls, and
+// for a head that decodes.
 use output::Out;
+use path::Path;
 use smt_word::Sent;
 use task::Number;
-use task::PredNode;
 use task_check::Walked;
-ghost use mathlib.Core.Bool.{true, false};
+ghost use mathlib.Core.Bool.{false};
 ghost use mathlib.Core.Path.{_≡_};
-ghost use mathlib.Core.List.{[], _∷_};
+ghost use mathlib.Core.List.{[], _∷_, _++_};
 ghost use Prim.Native.Nat.{_+_, min};
-ghost use Rattle.task.specs.Decode.{many, decExpr, decPred, deepest};
-ghost use Rattle.output.specs.Emit.{output, Sends};
+ghost use Rattle.task.specs.Decode.{many, decPred, deepest};
+ghost use Rattle.path.specs.Offsets.{entries, Leaves};
+ghost use Rattle.output.specs.Emit.{output, emits, Sends};
 ghost use Rattle.names.specs.Table.{Chained};
 ghost use Rattle.smt_sort.specs.Section.{encoderIn};
-ghost use Rattle.assertion.specs.Under.{forAllAt, onPath, varsText, keptText, ownText, guardsText, count, counts, countOwn, countAll, Counts, Passes, trueAt, conjunctionText, negationText, kvarText, exprText, implicationText, assertText, HeadSends};
-ghost use Rattle.assertion.specs.Kept.{Fits, Keeps, Extends};
+ghost use Rattle.assertion.specs.Under.{forAllAt, onPath, varsText, keptText, ownText, guardsText, count as countOne, counts, countOwn, countAll, Counts, Passes, trueAt, kvarAt, formOf, openingText, impliesText, groupText, ungroupText, beforeText, behindText, endText, headText, assertText, HeadSends};
+ghost use Rattle.assertion.specs.Kept.{Fits, Extends, guardsIn, KeptSends};
 
 // Where a predicate ends, and the number of guards then.
 pub struct Tally {
@@ -22,25 +24,32 @@ pub struct Tally {
     pub count: u64,
 }
 
-// What is kept of a path for the heads under it: how many bytes its binders and its guards have, at the start of a text each, and the number
-// of its guards, up to 2. Nothing is kept of it where `has` is false; the bytes then are those of a path around it.
+// How an assertion is put together: for a KVar or for an expression, with binders or without, and the number of its guards, up to 2.
+pub struct Form {
+    pub kvar: bool,
+    pub bound: bool,
+    pub count: u64,
+}
+
+// What is kept of a path for the heads under it: the number of its guards, up to 2, and in a lent text its binders, up to `vars`, and its
+// guards, from `middle` up to `guards`. Where `has` is false the text had no room; the bytes then are those of a path around it.
 pub struct Kept {
     pub has: bool,
     pub vars: usize,
+    pub middle: usize,
     pub guards: usize,
     pub count: u64,
 }
 
 // Sends the binders of the path, without a space between two.
-fn write_each_var(s: &[u8], path: &[usize], enc: &[u16], buf: &mut [u8], out: Out) -> Out
-    requires { ⌜ Chained (now s) (now enc) ⌝ }
-    ensures { λ r. ⌜ Sends (varsText (encoderIn (now (s .entry)) (now (enc .entry)))) (onPath (now (s .entry)) (now (path .entry))) (output (now (buf .entry)) (out .len)) (output (now (buf .exit)) (r .len)) 0 ⌝ }
+fn write_each_var(s: &[u8], path: Path, enc: &[u16], buf: &mut [u8], out: Out) -> Out
+    requires { ⌜ Chained (now s) (now enc) × Leaves path 0 ⌝ }
+    ensures { λ r. ⌜ Sends (varsText (encoderIn (now (s .entry)) (now (enc .entry)))) (onPath (now (s .entry)) (entries path)) (output (now (buf .entry)) (out .len)) (output (now (buf .exit)) (r .len)) 0 ⌝ }
 {
-    let n = path.len();
     let mut i: usize = 0;
     let mut sent = out;
-    while i < n {
-        let at = path[i];
+    while i < path.depth {
+        let at = path::position(path.offsets[i]);
         let one = smt_sort::write_binder(s, at, 256, enc, buf, sent);
         sent = one.out;
         i += 1;
@@ -121,15 +130,14 @@ fn write_own_guards(s: &[u8], at: usize, enc: &[u16], buf: &mut [u8], out: Out) 
 }
 
 // Sends those of the path.
-fn write_each_guard(s: &[u8], path: &[usize], enc: &[u16], buf: &mut [u8], out: Out) -> Out
-    requires { ⌜ Chained (now s) (now enc) ⌝ }
-    ensures { λ r. ⌜ Sends (guardsText (encoderIn (now (s .entry)) (now (enc .entry)))) (onPath (now (s .entry)) (now (path .entry))) (output (now (buf .entry)) (out .len)) (output (now (buf .exit)) (r .len)) 0 ⌝ }
+fn write_each_guard(s: &[u8], path: Path, enc: &[u16], buf: &mut [u8], out: Out) -> Out
+    requires { ⌜ Chained (now s) (now enc) × Leaves path 0 ⌝ }
+    ensures { λ r. ⌜ Sends (guardsText (encoderIn (now (s .entry)) (now (enc .entry)))) (onPath (now (s .entry)) (entries path)) (output (now (buf .entry)) (out .len)) (output (now (buf .exit)) (r .len)) 0 ⌝ }
 {
-    let n = path.len();
     let mut i: usize = 0;
     let mut sent = out;
-    while i < n {
-        let at = path[i];
+    while i < path.depth {
+        let at = path::position(path.offsets[i]);
         sent = write_own_guards(s, at, enc, buf, sent);
         i += 1;
     }
@@ -148,7 +156,7 @@ fn one_more(n: u64) -> u64
 
 // Counts the predicate at a position unless it is literally true, up to 2.
 fn count_guard(s: &[u8], at: usize, have: u64) -> Tally
-    ensures { λ r. ⌜ Passes count (decPred deepest (now (s .entry)) at) have (r .count) (r .at) ⌝ }
+    ensures { λ r. ⌜ Passes countOne (decPred deepest (now (s .entry)) at) have (r .count) (r .at) ⌝ }
 {
     if is_true_at(s, at) {
         return Tally {
@@ -200,349 +208,255 @@ fn count_own_guards(s: &[u8], at: usize, have: u64) -> u64
     count_kept(s, q, n, have)
 }
 
-// Counts those of the path, up to 2.
-fn count_each_guard(s: &[u8], path: &[usize]) -> u64
-    ensures { λ r. ⌜ Counts countAll (onPath (now (s .entry)) (now (path .entry))) 0 r ⌝ }
-{
-    let n = path.len();
-    let mut i: usize = 0;
-    let mut sum: u64 = 0;
-    while i < n {
-        if sum == 2 {
-            return 2;
-        }
-        let at = path[i];
-        sum = count_own_guards(s, at, sum);
-        i += 1;
-    }
-    sum
-}
-
 impl Kept {
-    // Of the path without ForAlls.
-    pub fn start() -> Kept
-        ensures { λ r. ⌜ (r .has ≡ true) × (r .vars ≡ 0) × (r .guards ≡ 0) × (r .count ≡ 0) ⌝ }
+    // Of the path without ForAlls; the guards of a longer one will stand from the middle on.
+    pub fn start(middle: usize) -> Kept
+        ensures { λ r. ⌜ (r .vars ≡ 0) × (r .middle ≡ middle) × (r .guards ≡ middle) × (r .count ≡ 0) ⌝ }
     {
         Kept {
             has: true,
             vars: 0,
-            guards: 0,
+            middle,
+            guards: middle,
             count: 0,
         }
     }
 
-    // Nothing of a longer path.
-    fn no_more(self) -> Kept
-        ensures { λ r. ⌜ (r .has ≡ false) × (r .vars ≡ self .vars) × (r .guards ≡ self .guards) ⌝ }
+    // Of a longer path the number of guards alone.
+    fn counted(self, count: u64) -> Kept
+        ensures { λ r. ⌜ (r .has ≡ false) × (r .vars ≡ self .vars) × (r .middle ≡ self .middle) × (r .guards ≡ self .guards) × (r .count ≡ count) ⌝ }
     {
         Kept {
             has: false,
             vars: self.vars,
+            middle: self.middle,
             guards: self.guards,
-            count: 0,
+            count,
         }
     }
 }
 
 // Keeps the ForAll at an offset behind what is kept of the path around it, if there is room.
-pub fn extend(
-    s: &[u8],
-    at: usize,
-    enc: &[u16],
-    vars: &mut [u8],
-    guards: &mut [u8],
-    kept: Kept,
-) -> Kept
+pub fn extend(s: &[u8], at: usize, enc: &[u16], text: &mut [u8], kept: Kept) -> Kept
     requires { ⌜ Chained (now s) (now enc) ⌝ }
-    requires { ⌜ Fits (now vars) (now guards) kept ⌝ }
-    ensures { λ r. ⌜ Extends (now (s .entry)) (now (enc .entry)) at kept r (now (vars .entry)) (now (guards .entry)) (now (vars .exit)) (now (guards .exit)) ⌝ }
+    requires { ⌜ Fits (now text) kept ⌝ }
+    ensures { λ r. ⌜ Extends (now (s .entry)) (now (enc .entry)) at kept r (now (text .entry)) (now (text .exit)) ⌝ }
 {
+    let count = count_own_guards(s, at, kept.count);
     if !kept.has {
-        return kept;
+        return kept.counted(count);
     }
     let v = kept.vars;
+    let m = kept.middle;
     let g = kept.guards;
-    let vars_left = vars.len() - v;
-    let guards_left = guards.len() - g;
-    let binder = smt_sort::write_binder(s, at, 256, enc, &mut vars[v..], Out::new());
-    let own = write_own_guards(s, at, enc, &mut guards[g..], Out::new());
+    let vars_left = m - v;
+    let guards_left = text.len() - g;
+    let binder = smt_sort::write_binder(s, at, 256, enc, &mut text[v..m], Out::new());
+    let own = write_own_guards(s, at, enc, &mut text[g..], Out::new());
     let sent = binder.out;
-    let m = sent.len;
-    let n = own.len;
-    if vars_left < m {
-        return kept.no_more();
+    if vars_left < sent.len {
+        return kept.counted(count);
     }
-    if guards_left < n {
-        return kept.no_more();
+    if guards_left < own.len {
+        return kept.counted(count);
     }
     Kept {
         has: true,
-        vars: v + m,
-        guards: g + n,
-        count: count_own_guards(s, at, kept.count),
+        vars: v + sent.len,
+        middle: m,
+        guards: g + own.len,
+        count,
     }
 }
 
-// Sends the binders of the path, from what is kept if they are.
-fn write_vars(
-    s: &[u8],
-    path: &[usize],
-    vars: &[u8],
-    guards: &[u8],
-    kept: Kept,
-    enc: &[u16],
-    buf: &mut [u8],
-    out: Out,
-) -> Out
-    requires { ⌜ Chained (now s) (now enc) ⌝ }
-    requires { ⌜ Keeps (now s) (now enc) (now path) (now vars) (now guards) kept ⌝ }
-    ensures { λ r. ⌜ Sends (varsText (encoderIn (now (s .entry)) (now (enc .entry)))) (onPath (now (s .entry)) (now (path .entry))) (output (now (buf .entry)) (out .len)) (output (now (buf .exit)) (r .len)) 0 ⌝ }
+// Whether a KVar stands at a position.
+fn is_kvar(s: &[u8], at: usize) -> bool
+    ensures { λ r. ⌜ r ≡ kvarAt (now (s .entry)) at ⌝ }
 {
-    if kept.has {
-        let n = kept.vars;
-        return out.bytes(buf, &vars[..n]);
+    if s.len() <= at {
+        return false;
     }
-    write_each_var(s, path, enc, buf, out)
+    s[at] == 0
 }
 
-// Sends its guards, from what is kept if they are.
-fn write_guards(
-    s: &[u8],
-    path: &[usize],
-    vars: &[u8],
-    guards: &[u8],
-    kept: Kept,
-    enc: &[u16],
-    buf: &mut [u8],
-    out: Out,
-) -> Out
-    requires { ⌜ Chained (now s) (now enc) ⌝ }
-    requires { ⌜ Keeps (now s) (now enc) (now path) (now vars) (now guards) kept ⌝ }
-    ensures { λ r. ⌜ Sends (guardsText (encoderIn (now (s .entry)) (now (enc .entry)))) (onPath (now (s .entry)) (now (path .entry))) (output (now (buf .entry)) (out .len)) (output (now (buf .exit)) (r .len)) 0 ⌝ }
+// The form of the assertion of the head at a position, with binders unless their number or length is 0.
+fn form_of(s: &[u8], at: usize, binders: usize, count: u64) -> Form
+    ensures { λ r. ⌜ r ≡ formOf (now (s .entry)) at binders count ⌝ }
 {
-    if kept.has {
-        let n = kept.guards;
-        return out.bytes(buf, &guards[..n]);
+    Form {
+        kvar: is_kvar(s, at),
+        bound: 0 < binders,
+        count,
     }
-    write_each_guard(s, path, enc, buf, out)
 }
 
-// Counts its guards, up to 2, or takes the count that is kept.
-fn count_guards(
-    s: &[u8],
-    path: &[usize],
-    vars: &[u8],
-    guards: &[u8],
-    kept: Kept,
-    enc: &[u16],
-) -> u64
-    requires { ⌜ Keeps (now s) (now enc) (now path) (now vars) (now guards) kept ⌝ }
-    ensures { λ r. ⌜ Counts countAll (onPath (now (s .entry)) (now (path .entry))) 0 r ⌝ }
+// Sends what stands before the binders.
+fn open_assert(bound: bool, buf: &mut [u8], out: Out) -> Out
+    ensures { λ r. ⌜ output (now (buf .exit)) (r .len) ≡ emits (output (now (buf .entry)) (out .len)) (openingText bound) ⌝ }
 {
-    if kept.has {
-        return kept.count;
+    if bound {
+        return out.bytes(buf, b"(assert (forall (");
     }
-    count_each_guard(s, path)
+    out.bytes(buf, b"(assert ")
 }
 
-// Sends the guards before a KVar head and a space before them: `true` for none, one alone, more under `and`.
-fn write_guard_conjunction(
-    s: &[u8],
-    path: &[usize],
-    vars: &[u8],
-    guards: &[u8],
-    kept: Kept,
-    enc: &[u16],
-    buf: &mut [u8],
-    out: Out,
-) -> Out
-    requires { ⌜ Chained (now s) (now enc) ⌝ }
-    requires { ⌜ Keeps (now s) (now enc) (now path) (now vars) (now guards) kept ⌝ }
-    ensures { λ r. ⌜ Sends (conjunctionText (encoderIn (now (s .entry)) (now (enc .entry)))) (onPath (now (s .entry)) (now (path .entry))) (output (now (buf .entry)) (out .len)) (output (now (buf .exit)) (r .len)) 0 ⌝ }
+// Sends what stands behind them.
+fn open_implication(bound: bool, buf: &mut [u8], out: Out) -> Out
+    ensures { λ r. ⌜ output (now (buf .exit)) (r .len) ≡ emits (output (now (buf .entry)) (out .len)) (impliesText bound) ⌝ }
 {
-    let count = count_guards(s, path, vars, guards, kept, enc);
+    if bound {
+        return out.bytes(buf, b") (=>");
+    }
+    out.bytes(buf, b"(=>")
+}
+
+// Sends what stands before the guards: `and`, unless there are none or one alone before a KVar, for which `true` stands if there are none.
+fn open_guards(kvar: bool, count: u64, buf: &mut [u8], out: Out) -> Out
+    ensures { λ r. ⌜ output (now (buf .exit)) (r .len) ≡ emits (output (now (buf .entry)) (out .len)) (groupText kvar count) ⌝ }
+{
     if count == 0 {
-        return out.bytes(buf, b" true");
+        if kvar {
+            return out.bytes(buf, b" true");
+        }
+        return out;
+    }
+    if !kvar {
+        return out.bytes(buf, b" (and");
     }
     if count == 1 {
-        return write_guards(s, path, vars, guards, kept, enc, buf, out);
+        return out;
     }
-    let opened = out.bytes(buf, b" (and");
-    let listed = write_guards(s, path, vars, guards, kept, enc, buf, opened);
-    listed.byte(buf, b')')
+    out.bytes(buf, b" (and")
 }
 
-// Sends the guards with the negation of the expression at a position, all under one `and` if there are guards.
-fn write_negation(
-    s: &[u8],
-    path: &[usize],
-    vars: &[u8],
-    guards: &[u8],
-    kept: Kept,
-    at: usize,
-    levels: usize,
-    enc: &[u16],
-    buf: &mut [u8],
-    out: Out,
-) -> Sent
-    requires { ⌜ Chained (now s) (now enc) ⌝ }
-    requires { ⌜ Keeps (now s) (now enc) (now path) (now vars) (now guards) kept ⌝ }
-    ensures { λ r. ⌜ HeadSends (negationText (encoderIn (now (s .entry)) (now (enc .entry)))) (onPath (now (s .entry)) (now (path .entry))) (decExpr levels (now (s .entry)) at) (output (now (buf .entry)) (out .len)) (output (now (buf .exit)) (r .out .len)) (r .at) ⌝ }
+// Sends what stands behind them: the parenthesis of `and` before a KVar.
+fn close_guards(kvar: bool, count: u64, buf: &mut [u8], out: Out) -> Out
+    ensures { λ r. ⌜ output (now (buf .exit)) (r .len) ≡ emits (output (now (buf .entry)) (out .len)) (ungroupText kvar count) ⌝ }
 {
-    let count = count_guards(s, path, vars, guards, kept, enc);
+    if !kvar {
+        return out;
+    }
+    if 1 < count {
+        return out.byte(buf, b')');
+    }
+    out
+}
+
+// Sends what stands before the head: an expression is negated.
+fn open_head(kvar: bool, buf: &mut [u8], out: Out) -> Out
+    ensures { λ r. ⌜ output (now (buf .exit)) (r .len) ≡ emits (output (now (buf .entry)) (out .len)) (beforeText kvar) ⌝ }
+{
+    if kvar {
+        return out.byte(buf, b' ');
+    }
+    out.bytes(buf, b" (not ")
+}
+
+// Sends what stands behind it: false is implied by the negation of an expression, with guards under one `and`.
+fn close_head(kvar: bool, count: u64, buf: &mut [u8], out: Out) -> Out
+    ensures { λ r. ⌜ output (now (buf .exit)) (r .len) ≡ emits (output (now (buf .entry)) (out .len)) (behindText kvar count) ⌝ }
+{
+    if kvar {
+        return out.byte(buf, b')');
+    }
     if count == 0 {
-        let opened = out.bytes(buf, b" (not ");
-        let expr = smt_expr::write_expr(s, at, levels, enc, buf, opened);
-        let sent = expr.out;
-        let closed = sent.byte(buf, b')');
-        return Sent {
-            at: expr.at,
-            out: closed,
-        };
+        return out.bytes(buf, b") false)");
     }
-    let opened = out.bytes(buf, b" (and");
-    let listed = write_guards(s, path, vars, guards, kept, enc, buf, opened);
-    let negated = listed.bytes(buf, b" (not ");
-    let expr = smt_expr::write_expr(s, at, levels, enc, buf, negated);
-    let sent = expr.out;
-    let closed = sent.bytes(buf, b"))");
-    Sent {
-        at: expr.at,
-        out: closed,
-    }
+    out.bytes(buf, b")) false)")
 }
 
-// Sends the implication of a KVar head.
-fn write_kvar_head(
+// Sends what closes an assertion.
+fn close_assert(bound: bool, buf: &mut [u8], out: Out) -> Out
+    ensures { λ r. ⌜ output (now (buf .exit)) (r .len) ≡ emits (output (now (buf .entry)) (out .len)) (endText bound) ⌝ }
+{
+    if bound {
+        return out.bytes(buf, b"))\n");
+    }
+    out.bytes(buf, b")\n")
+}
+
+// Sends the head at a position, and what closes the assertion.
+fn write_head(
     s: &[u8],
-    path: &[usize],
-    vars: &[u8],
-    guards: &[u8],
-    kept: Kept,
     at: usize,
     levels: usize,
+    form: Form,
     enc: &[u16],
     buf: &mut [u8],
     out: Out,
 ) -> Sent
     requires { ⌜ Chained (now s) (now enc) ⌝ }
-    requires { ⌜ Keeps (now s) (now enc) (now path) (now vars) (now guards) kept ⌝ }
-    ensures { λ r. ⌜ HeadSends (kvarText (encoderIn (now (s .entry)) (now (enc .entry)))) (onPath (now (s .entry)) (now (path .entry))) (decPred levels (now (s .entry)) at) (output (now (buf .entry)) (out .len)) (output (now (buf .exit)) (r .out .len)) (r .at) ⌝ }
+    ensures { λ r. ⌜ Sends (headText (encoderIn (now (s .entry)) (now (enc .entry))) form) (decPred levels (now (s .entry)) at) (output (now (buf .entry)) (out .len)) (output (now (buf .exit)) (r .out .len)) (r .at) ⌝ }
 {
-    let opened = out.bytes(buf, b"(=>");
-    let guarded = write_guard_conjunction(s, path, vars, guards, kept, enc, buf, opened);
-    let spaced = guarded.byte(buf, b' ');
-    let head = smt_fmt::write_pred(s, at, levels, enc, buf, spaced);
+    let opened = open_head(form.kvar, buf, out);
+    let head = smt_fmt::write_pred(s, at, levels, enc, buf, opened);
     let sent = head.out;
-    let closed = sent.byte(buf, b')');
+    let closed = close_head(form.kvar, form.count, buf, sent);
+    let ended = close_assert(form.bound, buf, closed);
     Sent {
         at: head.at,
-        out: closed,
+        out: ended,
     }
 }
 
-// Sends the implication of an expression head: false from its negation.
-fn write_expr_head(
-    s: &[u8],
-    path: &[usize],
-    vars: &[u8],
-    guards: &[u8],
-    kept: Kept,
-    at: usize,
-    levels: usize,
-    enc: &[u16],
-    buf: &mut [u8],
-    out: Out,
-) -> Sent
-    requires { ⌜ Chained (now s) (now enc) ⌝ }
-    requires { ⌜ Keeps (now s) (now enc) (now path) (now vars) (now guards) kept ⌝ }
-    ensures { λ r. ⌜ HeadSends (exprText (encoderIn (now (s .entry)) (now (enc .entry)))) (onPath (now (s .entry)) (now (path .entry))) (decExpr levels (now (s .entry)) at) (output (now (buf .entry)) (out .len)) (output (now (buf .exit)) (r .out .len)) (r .at) ⌝ }
+// Sends the guards from what is kept of them: `true` for none before a KVar, one alone, more under `and`. Before an expression all stand
+// under the `and` that is closed behind it.
+fn write_guard_conjunction(text: &[u8], kept: Kept, kvar: bool, buf: &mut [u8], out: Out) -> Out
+    requires { ⌜ Fits (now text) kept ⌝ }
+    ensures { λ r. ⌜ output (now (buf .exit)) (r .len) ≡ emits (output (now (buf .entry)) (out .len)) (groupText kvar (kept .count) ++ (guardsIn (now (text .entry)) kept ++ ungroupText kvar (kept .count))) ⌝ }
 {
-    let opened = out.bytes(buf, b"(=>");
-    let negation = write_negation(s, path, vars, guards, kept, at, levels, enc, buf, opened);
-    let sent = negation.out;
-    let closed = sent.bytes(buf, b" false)");
-    Sent {
-        at: negation.at,
-        out: closed,
-    }
+    let m = kept.middle;
+    let g = kept.guards;
+    let count = kept.count;
+    let opened = open_guards(kvar, count, buf, out);
+    let listed = opened.bytes(buf, &text[m..g]);
+    close_guards(kvar, count, buf, listed)
 }
 
-// Sends the implication of the head at a position.
-fn write_implication(
-    s: &[u8],
-    path: &[usize],
-    vars: &[u8],
-    guards: &[u8],
-    kept: Kept,
-    at: usize,
-    levels: usize,
-    enc: &[u16],
-    buf: &mut [u8],
-    out: Out,
-) -> Sent
-    requires { ⌜ Chained (now s) (now enc) ⌝ }
-    requires { ⌜ Keeps (now s) (now enc) (now path) (now vars) (now guards) kept ⌝ }
-    ensures { λ r. ⌜ HeadSends (implicationText (encoderIn (now (s .entry)) (now (enc .entry)))) (onPath (now (s .entry)) (now (path .entry))) (decPred levels (now (s .entry)) at) (output (now (buf .entry)) (out .len)) (output (now (buf .exit)) (r .out .len)) (r .at) ⌝ }
-{
-    if levels == 0 {
-        return Sent { at, out };
-    }
-    let below = levels - 1;
-    let node = task::read_pred_node(s, at);
-    match node {
-        PredNode::KVar(_, _, _) => write_kvar_head(
-            s,
-            path,
-            vars,
-            guards,
-            kept,
-            at,
-            levels,
-            enc,
-            buf,
-            out,
-        ),
-        PredNode::Expr(p) => write_expr_head(s, path, vars, guards, kept, p, below, enc, buf, out),
-        PredNode::Refused => Sent { at, out },
-    }
-}
-
-// Sends the assertion of the head at a position, inside the ForAlls of the path.
+// Sends the assertion of the head at a position, inside the ForAlls of which binders and guards are kept.
 pub fn write_assert(
     s: &[u8],
-    path: &[usize],
-    vars: &[u8],
-    guards: &[u8],
-    kept: Kept,
     at: usize,
     levels: usize,
+    kept: Kept,
+    text: &[u8],
     enc: &[u16],
     buf: &mut [u8],
     out: Out,
 ) -> Sent
-    requires { ⌜ Chained (now s) (now enc) ⌝ }
-    requires { ⌜ Keeps (now s) (now enc) (now path) (now vars) (now guards) kept ⌝ }
-    ensures { λ r. ⌜ HeadSends (assertText (encoderIn (now (s .entry)) (now (enc .entry)))) (onPath (now (s .entry)) (now (path .entry))) (decPred levels (now (s .entry)) at) (output (now (buf .entry)) (out .len)) (output (now (buf .exit)) (r .out .len)) (r .at) ⌝ }
+    requires { ⌜ Chained (now s) (now enc) × Fits (now text) kept ⌝ }
+    ensures { λ r. ⌜ KeptSends (now (s .entry)) (now (enc .entry)) (now (text .entry)) kept (decPred levels (now (s .entry)) at) (output (now (buf .entry)) (out .len)) (output (now (buf .exit)) (r .out .len)) (r .at) ⌝ }
 {
-    let opened = out.bytes(buf, b"(assert ");
-    if path.len() == 0 {
-        let body = write_implication(s, path, vars, guards, kept, at, levels, enc, buf, opened);
-        let sent = body.out;
-        let closed = sent.bytes(buf, b")\n");
-        return Sent {
-            at: body.at,
-            out: closed,
-        };
-    }
-    let quantified = opened.bytes(buf, b"(forall (");
-    let bound = write_vars(s, path, vars, guards, kept, enc, buf, quantified);
-    let parted = bound.bytes(buf, b") ");
-    let body = write_implication(s, path, vars, guards, kept, at, levels, enc, buf, parted);
-    let sent = body.out;
-    let closed = sent.bytes(buf, b"))\n");
-    Sent {
-        at: body.at,
-        out: closed,
-    }
+    let v = kept.vars;
+    let form = form_of(s, at, v, kept.count);
+    let opened = open_assert(form.bound, buf, out);
+    let listed = opened.bytes(buf, &text[..v]);
+    let implied = open_implication(form.bound, buf, listed);
+    let guarded = write_guard_conjunction(text, kept, form.kvar, buf, implied);
+    write_head(s, at, levels, form, enc, buf, guarded)
+}
+
+// Sends the assertion of the head at a position, inside the ForAlls of the path, of which only the number of guards is kept.
+pub fn write_long_assert(
+    s: &[u8],
+    at: usize,
+    levels: usize,
+    path: Path,
+    count: u64,
+    enc: &[u16],
+    buf: &mut [u8],
+    out: Out,
+) -> Sent
+    requires { ⌜ Chained (now s) (now enc) × Leaves path 0 ⌝ }
+    requires { ⌜ Counts countAll (onPath (now s) (entries path)) 0 count ⌝ }
+    ensures { λ r. ⌜ HeadSends (assertText (encoderIn (now (s .entry)) (now (enc .entry)))) (onPath (now (s .entry)) (entries path)) (decPred levels (now (s .entry)) at) (output (now (buf .entry)) (out .len)) (output (now (buf .exit)) (r .out .len)) (r .at) ⌝ }
+{
+    let form = form_of(s, at, path.depth, count);
+    let opened = open_assert(form.bound, buf, out);
+    let listed = write_each_var(s, path, enc, buf, opened);
+    let implied = open_implication(form.bound, buf, listed);
+    let grouped = open_guards(form.kvar, count, buf, implied);
+    let guarded = write_each_guard(s, path, enc, buf, grouped);
+    let closed = close_guards(form.kvar, count, buf, guarded);
+    write_head(s, at, levels, form, enc, buf, closed)
 }

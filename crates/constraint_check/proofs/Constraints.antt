@@ -17,10 +17,11 @@ use Rattle.task.specs.declared.SpanRead.the-variants as span-is
 use Rattle.task.specs.declared.ConstraintNode.{ConstraintNode}
 use Rattle.task.specs.declared.ConstraintNode.the-variants as constraint-node
 use Rattle.task.specs.Ast.{Sort, Pred, Constraint, Constraints}
-use Rattle.task.specs.Decode.{Res, got, refuse, bind, Decoder, give, _▹_, number, many, counted, name, decSort, decPred, decConstraint}
+use Rattle.task.specs.Decode.{Res, got, refuse, bind, Decoder, give, _▹_, number, many, counted, name, decSort, decPred, constraintForms, decConstraint}
 use Rattle.task.specs.Fault.{lower, each, nameFault, sortFault, predFault, shadowFault, constraintFault, constraintsFault}
 use Rattle.task.specs.Task.{literallyTrue, predHeads, headsOf, headsIn}
 use Rattle.task.specs.Node.{numberOf, bytesOf, spanOf, constraintOf, ConstraintAt}
+use Rattle.task.proofs.Reading.{coded-at}
 use Rattle.task.proofs.Judging.{lower-assoc, sound-lower}
 use Rattle.task.proofs.Pieces.{each-covers}
 use Rattle.task_check.specs.declared.Walked.{Walked}
@@ -29,8 +30,8 @@ use Rattle.task_check.specs.Walk.{walked, after, readTrue}
 use Rattle.task_check.proofs.Rows.{after-sound, Fold, Nexts, next-is, refused-is, row-goes, row-stops, row-ends}
 use Rattle.constraint_check.specs.declared.Counted.{Counted}
 use Rattle.constraint_check.specs.Tally.{answer, found, tally}
-use Rattle.constraint_check.specs.Around.{namesOn, forAll}
-use Rattle.constraint_check.proofs.Names.{names-append}
+use Rattle.constraint_check.specs.Around.{namesOn, isHead, forAll}
+use Rattle.constraint_check.proofs.Names.{names-append, head-stands}
 
 -- an answer part by part
 pub parts : {w w' : Walked} {n n' : ℕ} → w ≡ w' → n ≡ n' → answer w n ≡ answer w' n'
@@ -75,6 +76,14 @@ module _ (x : Res Pred) (v : Walked) (e : v ≡ walked predFault x) where
         let z : literallyTrue (y .value) ≡ false = sym (ap readTrue (y .is)) ∙ sym u ∙ u' in
         parts e (sym (ap (found predHeads) (y .is) ∙ ap (λ (b : Bool). cond b 0 1) z))
 
+-- the node of a head is known from its code
+pub head-node : (l : ℕ) (s : List ℕ) (at : ℕ) (b : Bool) → b ≡ isHead l s at → b ≡ true → (l ≡ 0 → ⊥) × ConstraintAt s at (constraint-node.Pred (at + 1))
+unfolding ConstraintAt constraintOf
+head-node l s at b e t =
+    let h = head-stands l s at b e t in
+    let h0 = h .0 in
+    (λ q. absurd (omega arith), λ k d. coded-at (constraintForms k d) s at 0 (h .1) (h .2))
+
 -- a constraint by its node
 module _ (l : ℕ) (s : List ℕ) (at : ℕ) (around : List (List ℕ)) where
   pub constraint-none : l ≡ 0 → answer (walked-is.Refused 3) 0 ≡ tally (constraintFault around) headsOf (decConstraint l s at)
@@ -118,6 +127,11 @@ module _ (l : ℕ) (s : List ℕ) (at : ℕ) (around : List (List ℕ)) where
     unfolding constraintOf
     constraint-refused c e u = rw (by-node constraint-node.Refused e) u
 
+  -- a member that is a head
+  pub constraint-head : (b : Bool) (c : Counted) → b ≡ isHead l s at → b ≡ true → c ≡ tally predFault predHeads (decPred (l - 1) s (at + 1))
+      → c ≡ tally (constraintFault around) headsOf (decConstraint l s at)
+  constraint-head b c e t u = let h = head-node l s at b e t in constraint-pred (constraint-node.Pred (at + 1)) (h .0) (h .1) (at + 1) c refl u
+
 -- a ForAll: refused in its name, its sort, its count or its predicates, or walked to its end
 module _ (l : ℕ) (s offsets : List ℕ) (at : ℕ) (x : SpanRead) (e : name s at ≡ spanOf s x) where
   pub for-all-unnamed : (c : Counted) → x ≡ span-is.Refused → c ≡ answer (walked-is.Refused 2) 0 → c ≡ tally (constraintFault (namesOn s offsets)) headsOf (forAll l s at)
@@ -159,12 +173,12 @@ module _ (l : ℕ) (s offsets : List ℕ) (at : ℕ) (x : SpanRead) (e : name s 
         for-all-preds-stop j m' =
             from-count (answer v' 0) (λ b g. stops (each predFault) (constraintFault (namesOn s offsets)) headsOf (many [] _∷_ (decPred l) n s r) (under b) v' j m m')
 
-        pub for-all-walks : (t : ℕ) (g : Fault) (offsets' : List ℕ) (c : Counted) (fg fb : Fault) (w : Walked) → v' ≡ walked-is.Next t g
+        pub for-all-walks : (t : ℕ) (g : Fault) (offsets' : List ℕ) (c : Counted) (fg fs fb : Fault) (w : Walked) → v' ≡ walked-is.Next t g
             → offsets' ≡ offsets ++ at ∷ [] → c ≡ tally (constraintFault (namesOn s offsets')) headsOf (decConstraint l s t)
-            → fg ≡ lower f g → fb ≡ lower (nameFault (bytesOf s y)) (lower (shadowFault (namesOn s offsets) (bytesOf s y)) fg) → w ≡ after fb (c .walked)
+            → fg ≡ lower f g → fs ≡ shadowFault (namesOn s offsets) (bytesOf s y) → fb ≡ lower (nameFault (bytesOf s y)) (lower fs fg) → w ≡ after fb (c .walked)
             → answer w (c .heads) ≡ tally (constraintFault (namesOn s offsets)) headsOf (forAll l s at)
         unfolding under constraintFault headsOf
-        for-all-walks t g offsets' c fg fb w m' o d a a' a'' =
+        for-all-walks t g offsets' c fg fs fb w m' o d a sf a' a'' =
             let names : namesOn s offsets' ≡ namesOn s offsets ++ bytesOf s y ∷ [] = ap (namesOn s) o ∙ names-append s offsets at (bytesOf s y) p (e ∙ ap (spanOf s) e') in
             let inner = constraintFault (namesOn s offsets ++ bytesOf s y ∷ []) in
             let d' : c ≡ tally inner headsOf (decConstraint l s t) = d ∙ ap (λ (xs : List (List ℕ)). tally (constraintFault xs) headsOf (decConstraint l s t)) names in
@@ -172,7 +186,7 @@ module _ (l : ℕ) (s offsets : List ℕ) (at : ℕ) (x : SpanRead) (e : name s 
             goes (each predFault) (constraintFault (namesOn s offsets)) headsOf (many [] _∷_ (decPred l) n s r) (under b) v' t g (answer w (c .heads)) m m' (λ ps k' z'.
             parts (a'' ∙ ap (λ (q : Counted). after fb (q .walked)) d') (ap (λ (q : Counted). q .heads) d')
             ∙ ends inner headsOf (constraintFault (namesOn s offsets)) headsOf (decConstraint l s t) (Constraint.forAll (bytesOf s y) b ps) fb
-            (λ c'. rw (a', a, ← z, ← z') (regroup (nameFault (bytesOf s y)) (shadowFault (namesOn s offsets) (bytesOf s y)) (sortFault false b) (each predFault ps) (inner c')))
+            (λ c'. rw (a', sf, a, ← z, ← z') (regroup (nameFault (bytesOf s y)) (shadowFault (namesOn s offsets) (bytesOf s y)) (sortFault false b) (each predFault ps) (inner c')))
             (λ c'. refl)))
           where
             regroup : (f1 f2 f3 f4 f5 : Fault) → lower f1 (lower f2 (lower f3 (lower f4 f5))) ≡ lower (lower f1 (lower f2 (lower f3 f4))) f5

@@ -1,16 +1,29 @@
--- The names on a path, and an offset put on a path.
+-- The names on a path: one more at the end, and the comparison of a name with each of them. The test for a head.
 use mathlib.Core.Path.{_≡_, refl, sym, ap, _∙_}
-use mathlib.Core.Bool.{Bool, true, false, _||_}
+use mathlib.Core.Bool.{Bool, true, false, cond, _||_, _&&_}
 use mathlib.Core.List.{List, [], _∷_, _++_}
 use Prim.Native.Nat.{ℕ, suc, _+_, _<_, _≤_}
 use native.Mathlib.Numerals.{add-one}
 use native.Mathlib.Omega.{arith}
-use lib.ListN.{length, take, drop, getD, set, drop-of-length-le, length-append}
-use lib.Seq.{take-suc, take-suc-set, take-length, drop-cons}
+use lib.Dec.{ltb, eqb}
+use lib.ListN.{length, drop, getD, drop-of-length-le}
+use lib.Seq.{drop-cons, getD-take}
+use borrow.Author.Tests.{lt-ltb, le-ltb, ltb-true, eqb-true}
 use Rattle.smtlib.specs.Lexicon.{same, isOne}
-use Rattle.task.specs.Decode.{Res, got, refuse, name}
+use Rattle.smtlib.proofs.Bools.{clash}
+use Rattle.path.specs.declared.Path.{Path}
+use Rattle.path.specs.Offsets.{entries, Leaves}
+use Rattle.path.proofs.Entries.{depth-is}
+use Rattle.task.specs.declared.Fault.the-variants.{Sound, Shadowed}
+use Rattle.task.specs.declared.Span.{Span}
+use Rattle.task.specs.declared.SpanRead.{SpanRead}
+use Rattle.task.specs.declared.SpanRead.the-variants as span-is
+use Rattle.task.specs.Decode.{Res, got, refuse, refusal, number, raw, name}
+use Rattle.task.specs.Fault.{shadowFault}
+use Rattle.task.specs.Node.{bytesOf, spanOf}
+use Rattle.task.proofs.Reading.{bind-got, number-got}
 use Rattle.task_check.specs.Walk.{named, namedAt}
-use Rattle.constraint_check.specs.Around.{namesOn}
+use Rattle.constraint_check.specs.Around.{namesOn, isHead}
 
 -- one offset, and then the others
 or-assoc : (a b : Bool) → (a || b) ≡ ((a || false) || b)
@@ -29,36 +42,63 @@ names-append s (a ∷ os) o x p e = ap (named (name s a)) (names-append s os o x
     front (got z q) xs = refl
     front (refuse k) xs = refl
 
--- the loop of is_around: the offsets from i on decide it; b is the answer for the offset at i
-module _ (s w a : List ℕ) (i : ℕ) (b x : Bool) where
-  step : i < length a → isOne w (namesOn s (drop i a)) ≡ (isOne w (namedAt s (getD a i 0)) || isOne w (namesOn s (drop (i + 1) a)))
-  step g = rw (add-one i, drop-cons a i 0 g) (is-one-named w (name s (getD a i 0)) (namesOn s (drop (suc i) a)))
+-- the loop of shadow_fault: the offsets from i on decide it; o is the offset at i, b the answer for the name there
+module _ (s w : List ℕ) (path : Path) (l : Leaves path 0) (i : ℕ) (z : isOne w (namesOn s (drop i (entries path))) ≡ isOne w (namesOn s (entries path))) where
+  module _ (g : i < path .depth) (o : ℕ) (eo : o ≡ getD (path .offsets) i 0) (b : Bool) (eb : b ≡ isOne w (namedAt s o)) where
+    step : (b || isOne w (namesOn s (drop (i + 1) (entries path)))) ≡ isOne w (namesOn s (entries path))
+    step =
+        let d = depth-is path 0 l in
+        let eo' : getD (entries path) i 0 ≡ o = getD-take (path .depth) (path .offsets) i 0 g ∙ sym eo in
+        let u : isOne w (namesOn s (drop i (entries path))) ≡ (isOne w (namedAt s o) || isOne w (namesOn s (drop (i + 1) (entries path)))) = rw (add-one i, drop-cons (entries path) i 0 (omega arith), eo') (is-one-named w (name s o) (namesOn s (drop (suc i) (entries path)))) in
+        rw eb (sym u ∙ z)
 
-  pub around-goes : i < length a → b ≡ isOne w (namedAt s (getD a i 0)) → b ≡ false
-      → isOne w (namesOn s (drop i a)) ≡ x → isOne w (namesOn s (drop (i + 1) a)) ≡ x
-  around-goes g e e' z = rw (step g, ← e, e') at z
+    pub shadow-goes : b ≡ false → isOne w (namesOn s (drop (i + 1) (entries path))) ≡ isOne w (namesOn s (entries path))
+    shadow-goes f = rw f at step
 
-  pub around-stops : i < length a → b ≡ isOne w (namedAt s (getD a i 0)) → b ≡ true → isOne w (namesOn s (drop i a)) ≡ x → true ≡ x
-  around-stops g e e' z = rw (step g, ← e, e') at z
+    pub shadow-stops : (x : List ℕ) → w ≡ x → b ≡ true → Shadowed ≡ shadowFault (namesOn s (entries path)) x
+    unfolding shadowFault
+    shadow-stops x e t = let y : true ≡ isOne w (namesOn s (entries path)) = rw t at step in rw (← e, ← y)
 
-  pub around-ends : length a ≤ i → isOne w (namesOn s (drop i a)) ≡ x → false ≡ x
-  around-ends g z = rw (drop-of-length-le a {i = i} g) at z
+  pub shadow-ends : (x : List ℕ) → w ≡ x → path .depth ≤ i → Sound ≡ shadowFault (namesOn s (entries path)) x
+  unfolding shadowFault
+  shadow-ends x e g =
+      let d = depth-is path 0 l in
+      let y : false ≡ isOne w (namesOn s (entries path)) = rw (drop-of-length-le (entries path) {i = i} (omega arith)) at z in
+      rw (← e, ← y)
 
--- the loop of push: the first k offsets are those of the path; then one more is put behind all of them
-module _ (a items : List ℕ) (k : ℕ) (e : take k items ≡ take k a) where
-  pub copied : k < length items → k < length a → take (k + 1) (set items k (getD a k 0)) ≡ take (k + 1) a
-  copied h g = rw (add-one k, take-suc-set items k (getD a k 0) h, take-suc a k 0 g, e)
+-- the tests of is_head, as the code goes through them
+module _ (levels : ℕ) (s : List ℕ) (at : ℕ) where
+  pub head-deepest : levels ≡ 0 → false ≡ isHead levels s at
+  head-deepest e = rw e
 
-  pub pushed : (x : ℕ) → length a < length items → k ≤ length a → length a ≤ k → take (length a + 1) (set items (length a) x) ≡ a ++ x ∷ []
-  pushed x h g g' =
-      let z : k ≡ length a = omega arith in
-      let e' : take (length a) items ≡ a = rw z at e ∙ take-length a in
-      rw (add-one (length a), take-suc-set items (length a) x h, e')
+  module _ (n : levels ≡ 0 → ⊥) where
+    level : ltb 0 levels ≡ true
+    level = lt-ltb 0 levels (omega arith)
 
--- what a caller of push lends, `&offsets[..depth]`, is as long as depth says: by what push ensures, one more offset than there were
-module _ (a offsets : List ℕ) (depth at : ℕ) (p : (depth ≡ length a + 1) × (take depth offsets ≡ a ++ at ∷ []) × (length offsets ≡ 256)) where
-  pub push-length : length (take depth offsets) ≡ length a + 1
-  push-length = ap length (p .1) ∙ length-append a (at ∷ [])
+    pub head-outside : length s ≤ at → false ≡ isHead levels s at
+    head-outside h = rw (level, le-ltb at (length s) h)
 
-  pub push-count : depth ≡ length (take depth offsets)
-  push-count = p .0 ∙ sym push-length
+    pub head-inside : at < length s → eqb (getD s at 0) 0 ≡ isHead levels s at
+    head-inside h = rw (level, lt-ltb at (length s) h)
+
+-- what the answer of is_head tells
+module _ (levels : ℕ) (s : List ℕ) (at : ℕ) where
+  tests : (a b c : Bool) → ltb 0 levels ≡ a → ltb at (length s) ≡ b → eqb (getD s at 0) 0 ≡ c → (a && b && c) ≡ true
+      → (0 < levels) × (at < length s) × (getD s at 0 ≡ 0)
+  tests true true true ea eb ec t = (ltb-true 0 levels ea, ltb-true at (length s) eb, eqb-true (getD s at 0) 0 ec)
+  tests false b c ea eb ec t = clash (cc)
+  tests true false c ea eb ec t = clash (cc)
+  tests true true false ea eb ec t = clash (cc)
+
+  pub head-stands : (b : Bool) → b ≡ isHead levels s at → b ≡ true → (0 < levels) × (at < length s) × (getD s at 0 ≡ 0)
+  head-stands b e t = tests _ _ _ refl refl refl (sym e ∙ t)
+
+-- a name begins in the section, so that two bytes hold its offset
+pub name-inside : (s : List ℕ) (at : ℕ) (w : List ℕ) (p : ℕ) → name s at ≡ got w p → at < length s
+name-inside s at w p e =
+    let b = bind-got (number 1 s at) (λ n q. cond (eqb n 0) (refusal 2) (raw n) s q) w p e in
+    let f = number-got 1 s at (b .value) (b .next) (b .first) .fits in
+    omega arith
+
+pub name-offset : (s : List ℕ) (at : ℕ) (x : SpanRead) → name s at ≡ spanOf s x → (y : Span) (p : ℕ) → x ≡ span-is.At y p → length s < 65536 → at < 65536
+name-offset s at x e y p e' h = let f = name-inside s at (bytesOf s y) p (e ∙ ap (spanOf s) e') in omega arith

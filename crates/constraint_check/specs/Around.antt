@@ -1,20 +1,21 @@
 -- The ForAlls around a constraint, by a path of offsets.
 use Prim.Native.Nat.{ℕ}
+use mathlib.Core.Bool.{Bool, _&&_}
 use mathlib.Core.List.{List, [], _∷_}
-use lib.ListN.{take}
+use lib.Dec.{ltb, eqb}
+use lib.ListN.{length, getD}
 use Rattle.task.specs.Ast.{Constraint}
 use Rattle.task.specs.Decode.{Decoder, give, _▹_, counted, name, decSort, decPred, decConstraint}
 use Rattle.task_check.specs.Walk.{named}
-use Rattle.constraint_check.specs.declared.Path.{Path}
-
--- the offsets on a path, the outermost first
-abbrev pub entries : Path → List ℕ
-entries p = take (p .depth) (p .offsets)
 
 -- the names that stand at offsets: an offset is where a ForAll's name stands, directly behind its code
 abbrev pub namesOn : List ℕ → List ℕ → List (List ℕ)
 namesOn s [] = []
 namesOn s (o ∷ rest) = named (name s o) (namesOn s rest)
+
+-- a head stands there, and a level is left for it
+abbrev pub isHead : ℕ → List ℕ → ℕ → Bool
+isHead levels s at = ltb 0 levels && ltb at (length s) && eqb (getD s at 0) 0
 
 -- what stands behind a ForAll's code
 abbrev pub forAll : ℕ → Decoder Constraint

@@ -1,4 +1,5 @@
 // The walk over a constraint: where it ends, what is at fault in it, and how many of its heads are not literally true.
+use path::Path;
 use task::ConstraintNode;
 use task::Fault;
 use task::Number;
@@ -6,18 +7,18 @@ use task::Span;
 use task::SpanRead;
 use task_check::Walked;
 ghost use mathlib.Core.Path.{_≡_};
-ghost use mathlib.Core.List.{[], _∷_, _++_};
-ghost use Prim.Native.Nat.{_+_, _<_, _≤_};
+ghost use mathlib.Core.List.{[]};
+ghost use Prim.Native.Nat.{_+_, _<_};
 ghost use lib.ListN.{length};
-ghost use Rattle.smtlib.specs.Lexicon.{isOne};
 ghost use Rattle.task.specs.Ast.{Constraints};
 ghost use Rattle.task.specs.Decode.{many, decPred, decConstraint, deepest};
 ghost use Rattle.task.specs.Fault.{lower, nameFault, predFault, constraintFault, constraintsFault, shadowFault};
 ghost use Rattle.task.specs.Task.{predHeads, headsOf, headsIn};
 ghost use Rattle.task.specs.Node.{bytesOf};
 ghost use Rattle.task_check.specs.declared.Walked.the-variants as walked-is;
+ghost use Rattle.path.specs.Offsets.{entries, Leaves};
 ghost use Rattle.constraint_check.specs.Tally.{answer, tally};
-ghost use Rattle.constraint_check.specs.Around.{entries, namesOn, forAll};
+ghost use Rattle.constraint_check.specs.Around.{namesOn, isHead, forAll};
 
 // Where a piece ends and its fault, or the number of the refusal, and the number of its heads that are not literally true.
 pub struct Counted {
@@ -25,54 +26,34 @@ pub struct Counted {
     pub heads: u64,
 }
 
-// The ForAlls around a constraint, the outermost first: the offset of each one's name.
-pub struct Path {
-    pub offsets: [usize; 256],
-    pub depth: usize,
-}
-
-impl Path {
-    // The ForAlls around and one more inside them, as an array of its own.
-    pub fn push(path: &[usize], at: usize) -> Path
-        requires { ⌜ length (now path) < 256 ⌝ }
-        ensures { λ r. ⌜ (r .depth ≡ length (now (path .entry)) + 1) × (entries r ≡ now (path .entry) ++ at ∷ []) × (length (r .offsets) ≡ 256) ⌝ }
-    {
-        let n = path.len();
-        let mut offsets = [0usize; 256];
-        let mut k: usize = 0;
-        while k < n {
-            offsets[k] = path[k];
-            k += 1;
-        }
-        offsets[n] = at;
-        let depth = n + 1;
-        Path { offsets, depth }
-    }
-}
-
-// Whether a name is that of a ForAll on the path.
-fn is_around(s: &[u8], x: &[u8], path: &[usize]) -> bool
-    ensures { λ r. ⌜ r ≡ isOne (now (x .entry)) (namesOn (now (s .entry)) (now (path .entry))) ⌝ }
+// The fault of a ForAll that is named like one on the path.
+fn shadow_fault(s: &[u8], x: Span, path: Path) -> Fault
+    requires { ⌜ Leaves path 0 ⌝ }
+    ensures { λ r. ⌜ r ≡ shadowFault (namesOn (now (s .entry)) (entries path)) (bytesOf (now (s .entry)) x) ⌝ }
 {
+    let name = task::bytes_of(s, x);
     let mut i: usize = 0;
-    while i < path.len() {
-        let at = path[i];
-        if task_check::is_named(s, at, x) {
-            return true;
+    while i < path.depth {
+        let at = path::position(path.offsets[i]);
+        if task_check::is_named(s, at, name) {
+            return Fault::Shadowed;
         }
         i += 1;
     }
-    false
+    Fault::Sound
 }
 
-// The fault of a ForAll that is named like one around it.
-fn shadow_fault(s: &[u8], x: Span, path: &[usize]) -> Fault
-    ensures { λ r. ⌜ r ≡ shadowFault (namesOn (now (s .entry)) (now (path .entry))) (bytesOf (now (s .entry)) x) ⌝ }
+// Whether a head stands at a position, and a level is left for it.
+pub fn is_head(s: &[u8], at: usize, levels: usize) -> bool
+    ensures { λ r. ⌜ r ≡ isHead levels (now (s .entry)) at ⌝ }
 {
-    if is_around(s, task::bytes_of(s, x), path) {
-        return Fault::Shadowed;
+    if levels == 0 {
+        return false;
     }
-    Fault::Sound
+    if s.len() <= at {
+        return false;
+    }
+    s[at] == 0
 }
 
 // A head: the predicate at a position.
@@ -90,9 +71,9 @@ fn check_head(s: &[u8], at: usize, levels: usize) -> Counted
 }
 
 // The constraint at a position, inside the ForAlls of the path.
-fn check_within(s: &[u8], at: usize, levels: usize, path: &[usize]) -> Counted
-    requires { ⌜ length (now path) + levels ≤ 256 ⌝ }
-    ensures { λ r. ⌜ r ≡ tally (constraintFault (namesOn (now (s .entry)) (now (path .entry)))) headsOf (decConstraint levels (now (s .entry)) at) ⌝ }
+fn check_within(s: &[u8], at: usize, levels: usize, path: Path) -> Counted
+    requires { ⌜ Leaves path levels × (length (now s) < 65536) ⌝ }
+    ensures { λ r. ⌜ r ≡ tally (constraintFault (namesOn (now (s .entry)) (entries path))) headsOf (decConstraint levels (now (s .entry)) at) ⌝ }
 {
     if levels == 0 {
         return Counted {
@@ -111,16 +92,21 @@ fn check_within(s: &[u8], at: usize, levels: usize, path: &[usize]) -> Counted
 }
 
 // n constraints in a row.
-fn check_members(s: &[u8], at: usize, n: u64, levels: usize, path: &[usize]) -> Counted
-    requires { ⌜ length (now path) + levels ≤ 256 ⌝ }
-    ensures { λ r. ⌜ r ≡ tally (constraintsFault (namesOn (now (s .entry)) (now (path .entry)))) headsIn (many Constraints.none Constraints.more (decConstraint levels) n (now (s .entry)) at) ⌝ }
+fn check_members(s: &[u8], at: usize, n: u64, levels: usize, path: Path) -> Counted
+    requires { ⌜ Leaves path levels × (length (now s) < 65536) ⌝ }
+    ensures { λ r. ⌜ r ≡ tally (constraintsFault (namesOn (now (s .entry)) (entries path))) headsIn (many Constraints.none Constraints.more (decConstraint levels) n (now (s .entry)) at) ⌝ }
 {
     let mut p = at;
     let mut left = n;
     let mut fault = Fault::Sound;
     let mut heads: u64 = 0;
     while 0 < left {
-        let one = check_within(s, p, levels, path);
+        // a head needs no copy of the path
+        let one = if is_head(s, p, levels) {
+            check_head(s, p + 1, levels - 1)
+        } else {
+            check_within(s, p, levels, path)
+        };
         let walked = one.walked;
         let Walked::Next(q, f) = walked else {
             return Counted { walked, heads: 0 };
@@ -137,10 +123,9 @@ fn check_members(s: &[u8], at: usize, n: u64, levels: usize, path: &[usize]) -> 
 }
 
 // The fault of a ForAll's name, before that of its sort and predicates.
-fn binder_fault(s: &[u8], x: Span, path: &[usize], rest: Fault) -> Fault
-    ensures { λ r. ⌜ r ≡ lower (nameFault (bytesOf (now (s .entry)) x)) (lower (shadowFault (namesOn (now (s .entry)) (now (path .entry))) (bytesOf (now (s .entry)) x)) rest) ⌝ }
+fn binder_fault(s: &[u8], x: Span, shadow: Fault, rest: Fault) -> Fault
+    ensures { λ r. ⌜ r ≡ lower (nameFault (bytesOf (now (s .entry)) x)) (lower shadow rest) ⌝ }
 {
-    let shadow = shadow_fault(s, x, path);
     task_check::lower(
         task_check::name_fault(s, x),
         task_check::lower(shadow, rest),
@@ -158,9 +143,9 @@ fn refused() -> Counted
 }
 
 // A ForAll behind its code: name, sort, counted predicates, body.
-fn check_for_all(s: &[u8], at: usize, levels: usize, path: &[usize]) -> Counted
-    requires { ⌜ length (now path) + levels < 256 ⌝ }
-    ensures { λ r. ⌜ r ≡ tally (constraintFault (namesOn (now (s .entry)) (now (path .entry)))) headsOf (forAll levels (now (s .entry)) at) ⌝ }
+fn check_for_all(s: &[u8], at: usize, levels: usize, mut path: Path) -> Counted
+    requires { ⌜ Leaves path (levels + 1) × (length (now s) < 65536) ⌝ }
+    ensures { λ r. ⌜ r ≡ tally (constraintFault (namesOn (now (s .entry)) (entries path))) headsOf (forAll levels (now (s .entry)) at) ⌝ }
 {
     let name = task::read_name(s, at);
     let SpanRead::At(x, p) = name else {
@@ -184,11 +169,10 @@ fn check_for_all(s: &[u8], at: usize, levels: usize, path: &[usize]) -> Counted
             heads: 0,
         };
     };
-    let inner = Path::push(path, at);
-    let offsets = inner.offsets;
-    let depth = inner.depth;
-    let body = check_within(s, t, levels, &offsets[..depth]);
-    let fault = binder_fault(s, x, path, task_check::lower(f, g));
+    let shadow = shadow_fault(s, x, path);
+    let fault = binder_fault(s, x, shadow, task_check::lower(f, g));
+    path = path.push(at);
+    let body = check_within(s, t, levels, path);
     let walked = body.walked;
     Counted {
         walked: task_check::after(fault, walked),
@@ -196,10 +180,10 @@ fn check_for_all(s: &[u8], at: usize, levels: usize, path: &[usize]) -> Counted
     }
 }
 
-// The constraint at a position.
+// The constraint at a position. Its offsets have two bytes each on the path.
 pub fn check_constraint(s: &[u8], at: usize) -> Counted
+    requires { ⌜ length (now s) < 65536 ⌝ }
     ensures { λ r. ⌜ r ≡ tally (constraintFault []) headsOf (decConstraint deepest (now (s .entry)) at) ⌝ }
 {
-    let none = [0usize; 0];
-    check_within(s, at, 256, &none)
+    check_within(s, at, 256, Path::empty())
 }

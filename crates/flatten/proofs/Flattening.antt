@@ -1,10 +1,11 @@
 -- What the steps of the walk over a constraint add up to.
 use mathlib.Core.Path.{_≡_, refl, sym, ap, _∙_}
-use mathlib.Core.Bool.{Bool, true, false}
+use mathlib.Core.Bool.{Bool, true, false, not, _&&_}
 use mathlib.Core.List.{List, [], _∷_, _++_, map-append}
 use Prim.Native.Nat.{ℕ, zero, suc, _+_, _-_, _<_, _≤_, min}
 use native.Mathlib.Omega.{arith}
 use lib.ListN.{length, take, drop}
+use Rattle.smtlib.proofs.Bools.{clash}
 use Rattle.task.specs.declared.Fault.{Fault}
 use Rattle.task.specs.declared.Number.{Number}
 use Rattle.task.specs.declared.Number.the-variants as number-is
@@ -20,100 +21,177 @@ use Rattle.task.proofs.Levels.{deeper}
 use Rattle.task_check.specs.declared.Walked.{Walked}
 use Rattle.task_check.specs.declared.Walked.the-variants as walked-is
 use Rattle.task_check.specs.Walk.{walked, readTrue}
-use Rattle.task_check.proofs.Rows.{refused-is}
-use Rattle.constraint_check.specs.Around.{forAll}
-use Rattle.constraint_check.proofs.Constraints.{by-node}
+use Rattle.task_check.proofs.Rows.{refused-is, next-is}
+use Rattle.path.specs.Offsets.{entries}
+use Rattle.path.proofs.Entries.{leaves-fewer, leaves-pushed}
+use Rattle.constraint_check.specs.Around.{isHead, forAll}
+use Rattle.constraint_check.proofs.Names.{head-stands, name-inside}
+use Rattle.constraint_check.proofs.Constraints.{by-node, head-node}
 use Rattle.smt_text.specs.Encoder.{Encoder}
 use Rattle.horn_text.specs.Clauses.{ForAll, bindersOf, guardsOf, flatten-constraint, flatten-constraints}
 use Rattle.horn_text.specs.Script.{write-assert, write-asserts}
 use Rattle.horn_text.proofs.Places.{binders-snoc, guards-snoc}
 use Rattle.output.specs.Emit.{output, most}
 use Rattle.task.proofs.Running.{runs-refused, runs-end, runs-then, Steps, Owing, owing-start, owing-more, owing-end}
+use Rattle.assertion.specs.declared.Kept.{Kept}
 use Rattle.assertion.specs.Under.{forAllAt, onPath, assertText, HeadSends}
-use Rattle.assertion.proofs.Keeping.{on-cons}
+use Rattle.assertion.specs.Kept.{Keeps, Stays, Extends, KeptSends}
+use Rattle.smt_sort.specs.Section.{encoderIn}
+use Rattle.assertion.proofs.Keeping.{on-cons, keeps-stays, stays-around}
 use Rattle.flatten.specs.declared.Range.{Range}
 use Rattle.flatten.specs.declared.Progress.{Progress}
-use Rattle.flatten.specs.Parts.{Writing, writing, has, placed, passed, put, puts, Puts, PutsUnder, assertPart, headParts, clauseParts, memberParts}
-use Rattle.flatten.proofs.Lending.{part-in, put-out, puts-append}
+use Rattle.flatten.specs.declared.Moved.{Moved}
+use Rattle.flatten.specs.declared.Row.{Row}
+use Rattle.flatten.specs.declared.Around.{Around}
+use Rattle.flatten.specs.Parts.{Writing, writing, has, placed, passed, put, puts, Puts, PutsUnder, headParts, clauseParts, memberParts}
+use Rattle.flatten.specs.Walk.{Ready, wanted, Passes, Places, KeptPlaces, PathPlaces, KeptPuts}
+use Rattle.flatten.proofs.Lending.{part-placed, put-out, puts-append}
 
 -- HEADS
 
--- one that is refused has no parts
-pub pred-refused : (r : Range) (path : Res (List ForAll)) (d : Res Pred) (v : Walked) → v ≡ walked predFault d → (parts : List ForAll → Pred → List (List ℕ)) (w w' : Writing) (at k : ℕ)
-    → v ≡ walked-is.Refused k → PutsUnder parts r path d w w' at
-unfolding PutsUnder Puts
-pred-refused r path d v e parts w w' at k e' fs q g = rw (refused-is predFault d k (sym e' ∙ e)) (runs-refused (λ z a. puts r z (parts fs a)) w w' at k)
+-- one that is not literally true and not written is not in the range
+out-of : (a : Bool) → (a && not false) ≡ false → a ≡ false
+out-of true e = clash (cc)
+out-of false e = refl
 
-module _ (enc : Encoder) (r : Range) (path : Res (List ForAll)) (d : Res Pred) (p : Progress) (xs : List ℕ) where
-  -- an assertion in the range
-  pub assert-in : (p' : Progress) (ys : List ℕ) (start z n at : ℕ) → has r (p .seen) ≡ true → start ≡ min (p .len) (length xs) → z ≡ 0 → length xs ≤ most
-      → HeadSends (assertText enc) path d (output (take (length xs - start) (drop start xs)) z) (output ys n) at → p' ≡ placed p n
-      → PutsUnder (assertPart enc) r path d (writing p xs) (writing p' (take start xs ++ (ys ++ drop (length xs - start) (drop start xs)))) at
-  unfolding PutsUnder HeadSends assertPart
-  assert-in p' ys start z n at h e e0 m w e' fs q g = part-in (assertText enc fs) r p p' xs d ys start z n at h e e0 m (w fs q g) e'
+module _ (d : Res Pred) (f : Moved) (v : Walked) (e : v ≡ walked predFault d) where
+  -- one that is refused has no parts
+  pub pred-refused : (k : ℕ) → v ≡ walked-is.Refused k → Passes f d f
+  unfolding Passes Puts
+  pred-refused k e' r i enc fs b =
+      rw (refused-is predFault d k (sym e' ∙ e))
+      (runs-refused (λ z a. puts r z (headParts enc fs a)) (writing (f .progress) b) (writing (f .progress) b) (f .at) k)
 
-  module _ (v : Walked) (e : v ≡ walked predFault d) where
-    -- one that is not
-    pub assert-out : (p' : Progress) (q : ℕ) (f : Fault) → has r (p .seen) ≡ false → v ≡ walked-is.Next q f → p' ≡ passed p
-        → PutsUnder (assertPart enc) r path d (writing p xs) (writing p' xs) q
-    unfolding PutsUnder Puts assertPart puts
-    assert-out p' q f h e' u fs z g a t k =
-        let y : walked-is.Next q f ≡ walked-is.Next t (predFault a) = sym e' ∙ e ∙ ap (walked predFault) k in
-        (cc, put-out r p p' xs (assertText enc fs a) h u)
+  module _ (t : Bool) (h : t ≡ readTrue d) (q : ℕ) (x : Fault) (e' : v ≡ walked-is.Next q x) where
+    ends : (a : Pred) (z : ℕ) → d ≡ got a z → q ≡ z
+    ends a z k = let y : walked-is.Next q x ≡ walked-is.Next z (predFault a) = sym e' ∙ e ∙ ap (walked predFault) k in cc
 
-    -- a head that is literally true has no assertion
-    pub head-true : (q : ℕ) (f : Fault) (t : Bool) → t ≡ readTrue d → t ≡ true → v ≡ walked-is.Next q f → PutsUnder (headParts enc) r path d (writing p xs) (writing p xs) q
-    unfolding PutsUnder Puts headParts flatten-constraint puts
-    head-true q f t h h' e' fs z g a s k =
-        let y : walked-is.Next q f ≡ walked-is.Next s (predFault a) = sym e' ∙ e ∙ ap (walked predFault) k in
+    -- one that is literally true has none
+    pub head-true : (m : Moved) → t ≡ true → (m .at ≡ q) × (m .progress ≡ f .progress) → Passes f d m
+    unfolding Passes Puts headParts flatten-constraint puts
+    head-true m h' u r i enc fs b a z k =
         let l : literallyTrue a ≡ true = sym (sym h' ∙ h ∙ ap readTrue k) in
-        (cc, rw l)
+        (u .0 ∙ ends a z k, rw (l, u .1))
 
-  pub head-other : (w' : Writing) (at : ℕ) (t : Bool) → t ≡ readTrue d → t ≡ false → PutsUnder (assertPart enc) r path d (writing p xs) w' at
-      → PutsUnder (headParts enc) r path d (writing p xs) w' at
-  unfolding PutsUnder Puts assertPart headParts assertText flatten-constraint
-  head-other w' at t h h' w fs q g a s k =
-      let v = w fs q g a s k in
-      let l : literallyTrue a ≡ false = sym (sym h' ∙ h ∙ ap readTrue k) in
-      (v .0, v .1 ∙ rw l)
+    -- the part of another is counted
+    pub head-out : (p : Progress) → t ≡ false → p ≡ passed (f .progress) → Passes f d (record { at = q; progress = p })
+    unfolding Passes wanted Puts headParts assertText flatten-constraint puts
+    head-out p h' u r i enc fs b a z k =
+        let l : literallyTrue a ≡ false = sym (sym h' ∙ h ∙ ap readTrue k) in
+        let j : (has r (f .progress .seen) && not false) ≡ false = rw (sym h ∙ h') at i in
+        (ends a z k, rw l (put-out r (f .progress) p b (assertText enc fs a) (out-of (has r (f .progress .seen)) j) u))
+
+-- the tests of is_wanted
+module _ (r : Range) (n : ℕ) (d : Res Pred) (c : Bool) (e : c ≡ has r n) where
+  pub is-wanted : (t : Bool) → t ≡ readTrue d → c ≡ true → not t ≡ wanted r n d
+  unfolding wanted
+  is-wanted t h e' = rw (← e, e', h)
+
+  pub not-wanted : c ≡ false → false ≡ wanted r n d
+  unfolding wanted
+  not-wanted e' = rw (← e, e')
+
+-- what is written
+both : (a b : Bool) → (a && b) ≡ true → (a ≡ true) × (b ≡ true)
+both true b e = (refl, e)
+both false b e = clash (cc)
+
+not-true : (b : Bool) → not b ≡ true → b ≡ false
+not-true true e = clash (cc)
+not-true false e = refl
+
+module _ (r : Range) (d : Res Pred) (f : Moved) (c : Bool) (e : c ≡ wanted r (f .progress .seen) d) where
+  -- what is put is a head's part
+  placed-puts : (enc : Encoder) (fs : List ForAll) (w' : Writing) (b : List ℕ) (at : ℕ) → c ≡ true → Places enc fs d (writing (f .progress) b) w' at
+      → Puts (headParts enc fs) r d (writing (f .progress) b) w' at
+  unfolding wanted Places Puts headParts assertText flatten-constraint puts put
+  placed-puts enc fs w' b at e' w a z k =
+      let v = w a z k in
+      let h = both (has r (f .progress .seen)) (not (readTrue d)) (sym e ∙ e') in
+      let l : literallyTrue a ≡ false = sym (ap readTrue k) ∙ not-true (readTrue d) (h .1) in
+      (v .0, v .1 ∙ rw (l, h .0))
+
+  module _ (s enc text : List ℕ) (kept : Kept) (b : List ℕ) where
+    pub kept-passed : (m : Moved) → c ≡ false → Passes f d m → KeptPuts s enc text kept r d (writing (f .progress) b) (writing (m .progress) b) (m .at)
+    unfolding KeptPuts Passes
+    kept-passed m e' u fs k = u r (sym e ∙ e') (encoderIn s enc) fs b
+
+    pub kept-wanted : (w' : Writing) (at : ℕ) → c ≡ true → KeptPlaces s enc text kept d (writing (f .progress) b) w' at
+        → KeptPuts s enc text kept r d (writing (f .progress) b) w' at
+    unfolding KeptPuts KeptPlaces
+    kept-wanted w' at e' w fs k = placed-puts (encoderIn s enc) fs w' b at e' (w fs k)
+
+  module _ (enc : Encoder) (path : Res (List ForAll)) (b : List ℕ) where
+    pub path-passed : (m : Moved) → c ≡ false → Passes f d m → PutsUnder (headParts enc) r path d (writing (f .progress) b) (writing (m .progress) b) (m .at)
+    unfolding PutsUnder Passes
+    path-passed m e' u fs q g = u r (sym e ∙ e') enc fs b
+
+    pub path-wanted : (w' : Writing) (at : ℕ) → c ≡ true → PathPlaces enc path d (writing (f .progress) b) w' at
+        → PutsUnder (headParts enc) r path d (writing (f .progress) b) w' at
+    unfolding PutsUnder PathPlaces
+    path-wanted w' at e' w fs q g = placed-puts enc fs w' b at e' (w fs q g)
+
+-- the assertion of a head behind what was written
+module _ (s enc : List ℕ) (d : Res Pred) (p p' : Progress) (xs ys : List ℕ) (start z n at : ℕ) (e : start ≡ min (p .len) (length xs)) (e0 : z ≡ 0) (m : length xs ≤ most)
+    (e' : p' ≡ placed p n) where
+  pub kept-placed : (text : List ℕ) (kept : Kept) → KeptSends s enc text kept d (output (take (length xs - start) (drop start xs)) z) (output ys n) at
+      → KeptPlaces s enc text kept d (writing p xs) (writing p' (take start xs ++ (ys ++ drop (length xs - start) (drop start xs)))) at
+  unfolding KeptSends KeptPlaces Places
+  kept-placed text kept w fs k = part-placed (assertText (encoderIn s enc) fs) p p' xs d ys start z n at e e0 m (w fs k) e'
+
+  pub path-placed : (path : Res (List ForAll)) → HeadSends (assertText (encoderIn s enc)) path d (output (take (length xs - start) (drop start xs)) z) (output ys n) at
+      → PathPlaces (encoderIn s enc) path d (writing p xs) (writing p' (take start xs ++ (ys ++ drop (length xs - start) (drop start xs)))) at
+  unfolding HeadSends PathPlaces Places
+  path-placed path w fs q g = part-placed (assertText (encoderIn s enc) fs) p p' xs d ys start z n at e e0 m (w fs q g) e'
+
+-- where all is kept of a path, its heads are those of the path
+pub kept-under : (s enc text os : List ℕ) (kept : Kept) (r : Range) (d : Res Pred) (w w' : Writing) (at : ℕ) → Keeps s enc os text kept → kept .has ≡ true
+    → KeptPuts s enc text kept r d w w' at → PutsUnder (headParts (encoderIn s enc)) r (onPath s os) d w w' at
+unfolding KeptPuts PutsUnder
+kept-under s enc text os kept r d w w' at k t u fs q g = u fs (k .holds t fs q g)
 
 -- A CONSTRAINT BY ITS NODE
 
-module _ (enc : Encoder) (r : Range) (path : Res (List ForAll)) (w w' : Writing) (q : ℕ) where
+-- the walk goes on from another position, with the same progress
+abbrev To : Moved → ℕ → Progress → Type 0
+To m at p = (m .at ≡ at) × (m .progress ≡ p)
+
+module _ (enc : Encoder) (r : Range) (path : Res (List ForAll)) (pr : Progress) (xs : List ℕ) (w' : Writing) (q : ℕ) where
   -- a constraint that is made of another piece
-  under-map : {B : Type 0} (k : B → Constraint) (x : Res B) → PutsUnder (λ fs b. clauseParts enc fs (k b)) r path x w w' q
-      → PutsUnder (clauseParts enc) r path (bind x (λ b t. got (k b) t)) w w' q
+  under-map : {B : Type 0} (k : B → Constraint) (x : Res B) → PutsUnder (λ fs b. clauseParts enc fs (k b)) r path x (writing pr xs) w' q
+      → PutsUnder (clauseParts enc) r path (bind x (λ b t. got (k b) t)) (writing pr xs) w' q
   unfolding PutsUnder Puts
   under-map k x u fs z g =
-      runs-then (λ v c. puts r v (clauseParts enc fs c)) w w' q (λ v b. puts r v (clauseParts enc fs (k b))) x _ w w' q (u fs z g) (λ b e v.
-      runs-end (λ v c. puts r v (clauseParts enc fs c)) w w' q (k b) q refl v)
+      runs-then (λ v c. puts r v (clauseParts enc fs c)) (writing pr xs) w' q (λ v b. puts r v (clauseParts enc fs (k b))) x _ (writing pr xs) w' q (u fs z g) (λ b e v.
+      runs-end (λ v c. puts r v (clauseParts enc fs c)) (writing pr xs) w' q (k b) q refl v)
 
   module _ (l : ℕ) (s : List ℕ) (at : ℕ) where
-    pub none-left : l ≡ 0 → PutsUnder (clauseParts enc) r path (decConstraint l s at) w w' q
+    pub none-left : l ≡ 0 → PutsUnder (clauseParts enc) r path (decConstraint l s at) (writing pr xs) w' q
     unfolding PutsUnder Puts decConstraint
-    none-left z fs t g = rw z (runs-refused (λ v c. puts r v (clauseParts enc fs c)) w w' q 3)
+    none-left z fs t g = rw z (runs-refused (λ v c. puts r v (clauseParts enc fs c)) (writing pr xs) w' q 3)
 
     module _ (node : ConstraintNode) (z : l ≡ 0 → ⊥) (h : ConstraintAt s at node) where
-      pub node-refused : node ≡ constraint-node.Refused → PutsUnder (clauseParts enc) r path (decConstraint l s at) w w' q
+      pub node-refused : node ≡ constraint-node.Refused → PutsUnder (clauseParts enc) r path (decConstraint l s at) (writing pr xs) w' q
       unfolding PutsUnder Puts constraintOf
-      node-refused e fs t g = rw (by-node l s at [] node z h constraint-node.Refused e) (runs-refused (λ v c. puts r v (clauseParts enc fs c)) w w' q 2)
+      node-refused e fs t g = rw (by-node l s at [] node z h constraint-node.Refused e) (runs-refused (λ v c. puts r v (clauseParts enc fs c)) (writing pr xs) w' q 2)
 
-      pub node-pred : (p : ℕ) → node ≡ constraint-node.Pred p → PutsUnder (headParts enc) r path (decPred (l - 1) s p) w w' q
-          → PutsUnder (clauseParts enc) r path (decConstraint l s at) w w' q
+      pub node-pred : (p : ℕ) (m : Moved) → node ≡ constraint-node.Pred p → To m p pr → PutsUnder (headParts enc) r path (decPred (l - 1) s (m .at)) (writing (m .progress) xs) w' q
+          → PutsUnder (clauseParts enc) r path (decConstraint l s at) (writing pr xs) w' q
       unfolding constraintOf headParts clauseParts
-      node-pred p e u = rw (by-node l s at [] node z h (constraint-node.Pred p) e) (under-map Constraint.pred (decPred (l - 1) s p) u)
+      node-pred p m e i u = rw (by-node l s at [] node z h (constraint-node.Pred p) e) (under-map Constraint.pred (decPred (l - 1) s p) (rw (i .0, i .1) at u))
 
-      pub node-conj : (n p : ℕ) → node ≡ constraint-node.Conj n p → PutsUnder (memberParts enc) r path (many Constraints.none Constraints.more (decConstraint (l - 1)) n s p) w w' q
-          → PutsUnder (clauseParts enc) r path (decConstraint l s at) w w' q
+      pub node-conj : (n p : ℕ) (m : Row) → node ≡ constraint-node.Conj n p → (m .from .at ≡ p) × (m .from .progress ≡ pr) × (m .left ≡ n)
+          → PutsUnder (memberParts enc) r path (many Constraints.none Constraints.more (decConstraint (l - 1)) (m .left) s (m .from .at)) (writing (m .from .progress) xs) w' q
+          → PutsUnder (clauseParts enc) r path (decConstraint l s at) (writing pr xs) w' q
       unfolding constraintOf memberParts clauseParts flatten-constraint
-      node-conj n p e u =
+      node-conj n p m e i u =
           rw (by-node l s at [] node z h (constraint-node.Conj n p) e)
-          (under-map Constraint.conj (many Constraints.none Constraints.more (decConstraint (l - 1)) n s p) u)
+          (under-map Constraint.conj (many Constraints.none Constraints.more (decConstraint (l - 1)) n s p) (rw (i .0, i .1, i .2) at u))
 
-      pub node-for-all : (p : ℕ) → node ≡ constraint-node.ForAll p → PutsUnder (clauseParts enc) r path (forAll (l - 1) s p) w w' q
-          → PutsUnder (clauseParts enc) r path (decConstraint l s at) w w' q
+      pub node-for-all : (p : ℕ) (m : Moved) → node ≡ constraint-node.ForAll p → To m p pr → PutsUnder (clauseParts enc) r path (forAll (l - 1) s (m .at)) (writing (m .progress) xs) w' q
+          → PutsUnder (clauseParts enc) r path (decConstraint l s at) (writing pr xs) w' q
       unfolding constraintOf
-      node-for-all p e u = rw (by-node l s at [] node z h (constraint-node.ForAll p) e) u
+      node-for-all p m e i u = rw (by-node l s at [] node z h (constraint-node.ForAll p) e) (rw (i .0, i .1) at u)
 
 -- MEMBERS
 
@@ -210,20 +288,15 @@ on-snoc s (o ∷ os) at fs q f e h =
     on-cons s (os ++ at ∷ []) o (i .value) (i .next) (j .value ++ f ∷ []) 0 (i .first) (on-snoc s os at (j .value) (j .next) f (j .first) h)
     ∙ ap (λ (gs : List ForAll). got (gs ++ f ∷ []) 0) z
 
--- the body of a ForAll was walked with a path that has its offset
-pub body-puts : (enc : Encoder) (r : Range) (s os os' : List ℕ) (d : Res Constraint) (w w' : Writing) (t : ℕ) → os' ≡ os
-    → PutsUnder (clauseParts enc) r (onPath s os') d w w' t → PutsUnder (clauseParts enc) r (onPath s os) d w w' t
-body-puts enc r s os os' d w w' t e u = rw (← e) u
-
 -- what is under a ForAll too
 under-one : (enc : Encoder) (r : Range) (w : Writing) (fs : List ForAll) (f : ForAll) (c : Constraint)
     → puts r w (clauseParts enc (fs ++ f ∷ []) c) ≡ puts r w (clauseParts enc fs (Constraint.forAll (f .binder .name) (f .binder .sort) (f .preds) c))
 unfolding clauseParts flatten-constraint
 under-one enc r w fs f c = rw (binders-snoc fs f, guards-snoc fs f)
 
-module _ (enc : Encoder) (r : Range) (s os : List ℕ) (l at : ℕ) (w w' : Writing) (t : ℕ) (v : Walked) (e : v ≡ walked binderFault (binder l s at)) where
+module _ (enc : Encoder) (r : Range) (s os : List ℕ) (l at : ℕ) (pr : Progress) (xs : List ℕ) (w' : Writing) (t : ℕ) (v : Walked) (e : v ≡ walked binderFault (binder l s at)) where
   -- one that is refused in its binder
-  pub for-all-unbound : (k : ℕ) → v ≡ walked-is.Refused k → PutsUnder (clauseParts enc) r (onPath s os) (forAll l s at) w w' t
+  pub for-all-unbound : (k : ℕ) → v ≡ walked-is.Refused k → PutsUnder (clauseParts enc) r (onPath s os) (forAll l s at) (writing pr xs) w' t
   unfolding PutsUnder Puts
   for-all-unbound k e' fs q g c z f =
       let i = parts l s at c z f in
@@ -237,7 +310,7 @@ module _ (enc : Encoder) (r : Range) (s os : List ℕ) (l at : ℕ) (w w' : Writ
         cc
 
     -- in the number of its predicates
-    pub for-all-uncounted : m ≡ number-is.Refused → PutsUnder (clauseParts enc) r (onPath s os) (forAll l s at) w w' t
+    pub for-all-uncounted : m ≡ number-is.Refused → PutsUnder (clauseParts enc) r (onPath s os) (forAll l s at) (writing pr xs) w' t
     unfolding PutsUnder Puts
     for-all-uncounted u' fs q g c z h =
         let i = parts l s at c z h in
@@ -253,15 +326,15 @@ module _ (enc : Encoder) (r : Range) (s os : List ℕ) (l at : ℕ) (w w' : Writ
           rw (en, eq) (i .holds)
 
       -- in these
-      pub for-all-unheld : (j : ℕ) → v' ≡ walked-is.Refused j → PutsUnder (clauseParts enc) r (onPath s os) (forAll l s at) w w' t
+      pub for-all-unheld : (j : ℕ) → v' ≡ walked-is.Refused j → PutsUnder (clauseParts enc) r (onPath s os) (forAll l s at) (writing pr xs) w' t
       unfolding PutsUnder Puts
       for-all-unheld j k' fs y g c z h = got-refuse (sym (held c z h) ∙ refused-is (each predFault) (many [] _∷_ (decPred l) n s q) j (sym k' ∙ k))
 
       -- its body is walked with its offset on the path
-      pub for-all-puts : (b : ℕ) (x : Fault) (os' : List ℕ) → l ≤ deepest → v' ≡ walked-is.Next b x → os' ≡ os ++ at ∷ []
-          → PutsUnder (clauseParts enc) r (onPath s os') (decConstraint l s b) w w' t → PutsUnder (clauseParts enc) r (onPath s os) (forAll l s at) w w' t
+      pub for-all-puts : (b : ℕ) (x : Fault) (os' : List ℕ) (j : Moved) → l ≤ deepest → v' ≡ walked-is.Next b x → os' ≡ os ++ at ∷ [] → To j b pr
+          → PutsUnder (clauseParts enc) r (onPath s os') (decConstraint l s (j .at)) (writing (j .progress) xs) w' t → PutsUnder (clauseParts enc) r (onPath s os) (forAll l s at) (writing pr xs) w' t
       unfolding PutsUnder Puts forAllAt
-      for-all-puts b x os' d k' o i fs y g c z h =
+      for-all-puts b x os' j d k' o ej i fs y g c z h =
           let a = parts l s at c z h in
           let eb : walked-is.Next b x ≡ walked-is.Next (a .body) (each predFault (a .all .preds)) = sym k' ∙ k ∙ ap (walked (each predFault)) (held c z h) in
           let e1 : b ≡ a .body = cc in
@@ -272,5 +345,53 @@ module _ (enc : Encoder) (r : Range) (s os : List ℕ) (l at : ℕ) (w w' : Writ
             deeper .preds l deepest d (a .n) .agrees s (a .q) (a .all .preds) (a .body) (a .holds),
           ) in
           let on : onPath s os' ≡ got (fs ++ a .all ∷ []) 0 = ap (onPath s) o ∙ on-snoc s os at fs y (a .all) g stands in
-          let n = i (fs ++ a .all ∷ []) 0 on (a .inner) z (rw e1 (a .rest)) in
-          (n .0, n .1 ∙ under-one enc r w fs (a .all) (a .inner) ∙ ap (λ (k : Constraint). puts r w (clauseParts enc fs k)) (a .is))
+          let n = i (fs ++ a .all ∷ []) 0 on (a .inner) z (rw (ej .0, e1) (a .rest)) in
+          (n .0, n .1 ∙ rw (ej .1) (under-one enc r (writing pr xs) fs (a .all) (a .inner) ∙ ap (λ (k : Constraint). puts r (writing pr xs) (clauseParts enc fs k)) (a .is)))
+
+-- a binder that was read has an offset of two bytes
+pub binder-offset : (l : ℕ) (s : List ℕ) (at : ℕ) (v : Walked) (q : ℕ) (f : Fault) → v ≡ walked binderFault (binder l s at) → v ≡ walked-is.Next q f → length s < 65536 → at < 65536
+binder-offset l s at v q f e e' h =
+    let y = next-is binderFault (binder l s at) q f (sym e' ∙ e) in
+    let n = bind-got (name s at) _ (y .value) q (y .is) in
+    let g = name-inside s at (n .value) (n .next) (n .first) in
+    omega arith
+
+-- HEADS THAT NEED NO PATH
+
+module _ (l : ℕ) (s : List ℕ) (at : ℕ) (known c : Bool) (e : c ≡ (known && isHead l s at)) (e' : c ≡ true) where
+  pub light-stands : (0 < l) × (at < length s)
+  light-stands = let h = head-stands l s at true (sym (both known (isHead l s at) (sym e ∙ e') .1)) refl in (h .0, h .1)
+
+  pub light-puts : (enc text os : List ℕ) (kept : Kept) (r : Range) (f m : Moved) (b : List ℕ) (w' : Writing) (t : ℕ) → at ≡ f .at → known ≡ kept .has → Keeps s enc os text kept
+      → (m .at ≡ at + 1) × (m .progress ≡ f .progress) → KeptPuts s enc text kept r (decPred (l - 1) s (m .at)) (writing (m .progress) b) w' t
+      → PutsUnder (clauseParts (encoderIn s enc)) r (onPath s os) (decConstraint l s (f .at)) (writing (f .progress) b) w' t
+  light-puts enc text os kept r f m b w' t ea ek k u w =
+      let h = both known (isHead l s at) (sym e ∙ e') in
+      let n = head-node l s at true (sym (h .1)) refl in
+      rw (← ea)
+      (node-pred (encoderIn s enc) r (onPath s os) (f .progress) b w' t l s at (constraint-node.Pred (at + 1)) (n .0) (n .1) (at + 1) m refl u
+      (kept-under s enc text os kept r (decPred (l - 1) s (m .at)) (writing (m .progress) b) w' t k (sym ek ∙ h .0) w))
+
+-- READY
+
+module _ (s enc text : List ℕ) (a : Around) (l : ℕ) (h : Ready s enc text a l) where
+  pub ready-fewer : (k : ℕ) → k ≤ l → Ready s enc text a k
+  ready-fewer k g = record { short = h .short; chained = h .chained; leaves = leaves-fewer (a .path) l k g (h .leaves); keeps = h .keeps }
+
+  pub ready-stays : (text' : List ℕ) → Stays (a .kept) text text' → Ready s enc text' a l
+  ready-stays text' g = record { short = h .short; chained = h .chained; leaves = h .leaves; keeps = keeps-stays s enc (entries (a .path)) text text' (a .kept) (h .keeps) g }
+
+-- with one ForAll more
+pub ready-pushed : (s enc text text' : List ℕ) (a b : Around) (l at : ℕ) (k : Kept) → Ready s enc text a (l + 1)
+    → (b .kept ≡ k) × (entries (b .path) ≡ entries (a .path) ++ at ∷ []) × (b .path .depth ≡ a .path .depth + 1) × (length (b .path .offsets) ≡ 256)
+    → Extends s enc at (a .kept) k text text' → Ready s enc text' b l
+ready-pushed s enc text text' a b l at k h e x = record {
+  short = h .short;
+  chained = h .chained;
+  leaves = leaves-pushed (a .path) (b .path) l at (h .leaves) (e .1, e .2, e .3);
+  keeps = rw (e .0, e .1) (x .keeps (entries (a .path)) (h .keeps));
+}
+
+-- what stays of the longer path stays
+pub stays-inside : (s enc text text' text'' : List ℕ) (at : ℕ) (k k' b : Kept) → Extends s enc at k k' text text' → b ≡ k' → Stays b text' text'' → Stays k text text''
+stays-inside s enc text text' text'' at k k' b x e y = stays-around s enc at k k' text text' text'' x (rw e at y)

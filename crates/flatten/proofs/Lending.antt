@@ -11,6 +11,7 @@ use lib.ListN.{length, set, take, drop, take-append-drop, drop-of-length-le, len
 use lib.Seq.{sets, take-all, take-set-le, drop-set-add}
 use borrow.Author.Tests.{le-leb, lt-leb}
 use Rattle.task.specs.Decode.{Res}
+use Rattle.task.specs.Run.{Runs}
 use Rattle.task.proofs.Reading.{le-or-lt}
 use Rattle.output.specs.Emit.{Output, output, most, emits, Sends}
 use Rattle.output.proofs.Sent.{emits-sets}
@@ -53,33 +54,45 @@ same-writing : {n n' l l' m m' : ℕ} {b b' : List ℕ} → n ≡ n' → l ≡ l
     → _≡_ {A = Writing} (record { seen = n; len = l; longest = m; buf = b }) (record { seen = n'; len = l'; longest = m'; buf = b' })
 same-writing p q r s = λ i. record { seen = p i; len = q i; longest = r i; buf = s i }
 
+-- a part behind what was written: n bytes were sent to what was lent
+pub place-in : (p p' : Progress) (xs t ys : List ℕ) (start z n : ℕ) → start ≡ min (p .len) (length xs) → z ≡ 0 → length xs ≤ most
+    → output ys n ≡ emits (output (take (length xs - start) (drop start xs)) z) t → p' ≡ placed p n
+    → writing p' (take start xs ++ (ys ++ drop (length xs - start) (drop start xs))) ≡ place (writing p xs) t
+unfolding place
+place-in p p' xs t ys start z n e e0 m w e' =
+    let tail = take (length xs - start) (drop start xs) in
+    let o : output ys n ≡ output (sets tail 0 t) (min (0 + length t) most) = w ∙ rw e0 (emits-sets t tail 0 (rw (length-take, length-drop) (omega arith)) (omega arith)) in
+    let l : n ≡ min (length t) most = ap (λ (x : Output). x .len) o ∙ omega arith in
+    rw e'
+    (same-writing refl (ap (up (p .len)) l) (ap (max (p .longest)) l) (lent xs t ys (p .len) start e (ap (λ (x : Output). x .buf) o)))
+
 module _ (r : Range) (p p' : Progress) (xs t : List ℕ) where
-  -- a part in the range: n bytes were sent to what was lent
+  -- a part in the range
   pub put-in : (ys : List ℕ) (start z n : ℕ) → has r (p .seen) ≡ true → start ≡ min (p .len) (length xs) → z ≡ 0 → length xs ≤ most
       → output ys n ≡ emits (output (take (length xs - start) (drop start xs)) z) t → p' ≡ placed p n
       → writing p' (take start xs ++ (ys ++ drop (length xs - start) (drop start xs))) ≡ put r (writing p xs) t
-  unfolding put place
-  put-in ys start z n h e e0 m w e' =
-      let tail = take (length xs - start) (drop start xs) in
-      let o : output ys n ≡ output (sets tail 0 t) (min (0 + length t) most) = w ∙ rw e0 (emits-sets t tail 0 (rw (length-take, length-drop) (omega arith)) (omega arith)) in
-      let l : n ≡ min (length t) most = ap (λ (x : Output). x .len) o ∙ omega arith in
-      rw (h, e')
-      (same-writing refl (ap (up (p .len)) l) (ap (max (p .longest)) l) (lent xs t ys (p .len) start e (ap (λ (x : Output). x .buf) o)))
+  unfolding put
+  put-in ys start z n h e e0 m w e' = rw h (place-in p p' xs t ys start z n e e0 m w e')
 
   -- a part that is not
   pub put-out : has r (p .seen) ≡ false → p' ≡ passed p → writing p' xs ≡ put r (writing p xs) t
   unfolding put pass
   put-out h e = rw (h, e)
 
--- a decoded part in the range: its text was sent to what was lent
-module _ {A : Type 0} (text : A → List ℕ) (r : Range) (p p' : Progress) (xs : List ℕ) (d : Res A) where
-  pub part-in : (ys : List ℕ) (start z n at : ℕ) → has r (p .seen) ≡ true → start ≡ min (p .len) (length xs) → z ≡ 0 → length xs ≤ most
+-- a decoded part: its text was sent to what was lent
+module _ {A : Type 0} (text : A → List ℕ) (p p' : Progress) (xs : List ℕ) (d : Res A) (ys : List ℕ) (start z n at : ℕ) where
+  pub part-placed : start ≡ min (p .len) (length xs) → z ≡ 0 → length xs ≤ most → Sends text d (output (take (length xs - start) (drop start xs)) z) (output ys n) at → p' ≡ placed p n
+      → Runs (λ v a. place v (text a)) d (writing p xs) (writing p' (take start xs ++ (ys ++ drop (length xs - start) (drop start xs)))) at
+  unfolding Sends
+  part-placed e e0 m w e' a q g = let v = w a q g in (v .0, place-in p p' xs (text a) ys start z n e e0 m (v .1) e')
+
+-- in the range
+module _ {A : Type 0} (text : A → List ℕ) (r : Range) (p p' : Progress) (xs : List ℕ) (d : Res A) (ys : List ℕ) (start z n at : ℕ) where
+  pub part-in : has r (p .seen) ≡ true → start ≡ min (p .len) (length xs) → z ≡ 0 → length xs ≤ most
       → Sends text d (output (take (length xs - start) (drop start xs)) z) (output ys n) at → p' ≡ placed p n
       → Puts (λ a. text a ∷ []) r d (writing p xs) (writing p' (take start xs ++ (ys ++ drop (length xs - start) (drop start xs)))) at
   unfolding Puts Sends puts
-  part-in ys start z n at h e e0 m w e' a q g =
-      let v = w a q g in
-      (v .0, put-in r p p' xs (text a) ys start z n h e e0 m (v .1) e')
+  part-in h e e0 m w e' a q g = let v = w a q g in (v .0, put-in r p p' xs (text a) ys start z n h e e0 m (v .1) e')
 
 -- parts one behind the other
 pub puts-append : (r : Range) (w : Writing) (us vs : List (List ℕ)) → puts r w (us ++ vs) ≡ puts r (puts r w us) vs

@@ -14,7 +14,6 @@ use Rattle.horn_text.specs.Clauses.{ForAll, bindersOf, guardsOf, flatten-constr
 use Rattle.horn_text.specs.Script.{write-asserts}
 use Rattle.task.specs.Run.{Runs}
 use Rattle.output.specs.Emit.{most}
-use Rattle.assertion.specs.Under.{assertText}
 use Rattle.flatten.specs.declared.Range.{Range}
 use Rattle.flatten.specs.declared.Progress.{Progress}
 
@@ -73,10 +72,6 @@ Puts parts r d w w' at = Runs (λ v a. puts r v (parts a)) d w w' at
 -- Where the ForAlls of a path stand at its offsets, the parts of a piece under them were put.
 unfoldable pub PutsUnder : {A : Type 0} → (List ForAll → A → List (List ℕ)) → Range → Res (List ForAll) → Res A → Writing → Writing → ℕ → Type 0
 PutsUnder parts r path d w w' at = (fs : List ForAll) (q : ℕ) → path ≡ got fs q → Puts (parts fs) r d w w' at
-
--- the part of a head that is not literally true
-unfoldable pub assertPart : Encoder → List ForAll → Pred → List (List ℕ)
-assertPart enc fs p = assertText enc fs p ∷ []
 
 -- the parts of a head: none for one that is literally true
 unfoldable pub headParts : Encoder → List ForAll → Pred → List (List ℕ)

@@ -1,23 +1,26 @@
 // `flatten_constraint` of `smt_horn.rs`: the walk of the constraint with the path of ForAlls. At each head that is not literally true it puts
 // the assertion into the buffer behind the last written byte, if the assertion's number among the parts is in the range.
 use assertion::Kept;
-use constraint_check::Path;
 use output::Out;
+use path::Path;
 use task::ConstraintNode;
 use task::Number;
 use task_check::Walked;
+ghost use mathlib.Core.Bool.{_&&_};
 ghost use mathlib.Core.List.{[], _∷_, _++_};
 ghost use mathlib.Core.Path.{_≡_};
-ghost use Prim.Native.Nat.{_+_, _<_, _≤_, max};
+ghost use Prim.Native.Nat.{_+_, _<_, max};
 ghost use lib.ListN.{length};
 ghost use Rattle.task.specs.Ast.{Constraints};
 ghost use Rattle.task.specs.Decode.{many, decPred, decConstraint};
-ghost use Rattle.constraint_check.specs.Around.{forAll};
+ghost use Rattle.path.specs.Offsets.{entries, Leaves};
+ghost use Rattle.constraint_check.specs.Around.{isHead, forAll};
 ghost use Rattle.names.specs.Table.{Chained};
 ghost use Rattle.smt_sort.specs.Section.{encoderIn};
-ghost use Rattle.assertion.specs.Kept.{Keeps, Stays};
-ghost use Rattle.assertion.specs.Under.{onPath};
-ghost use Rattle.flatten.specs.Parts.{writing, has as hasIn, placed as placedIs, passed as passedIs, PutsUnder, assertPart, headParts, clauseParts, memberParts};
+ghost use Rattle.assertion.specs.Kept.{Fits, Stays};
+ghost use Rattle.assertion.specs.Under.{onPath, countAll, Counts};
+ghost use Rattle.flatten.specs.Parts.{writing, has as hasIn, placed as placedIs, passed as passedIs, PutsUnder, headParts, clauseParts, memberParts};
+ghost use Rattle.flatten.specs.Walk.{wanted, Passes, KeptPlaces, PathPlaces, KeptPuts, Ready};
 
 // The numbers of the parts that are written: from one up to, not including, another.
 pub struct Range {
@@ -32,10 +35,22 @@ pub struct Progress {
     pub longest: usize,
 }
 
-// Where a walker ended, and the progress then.
+// Where a walker is, and the progress so far.
 pub struct Moved {
     pub at: usize,
     pub progress: Progress,
+}
+
+// Constraints in a row: where the walk meets the first, and how many they are.
+pub struct Row {
+    pub from: Moved,
+    pub left: u64,
+}
+
+// The ForAlls around a constraint: the path of their offsets, and what is kept of them.
+pub struct Around {
+    pub path: Path,
+    pub kept: Kept,
 }
 
 // The larger of two numbers.
@@ -57,6 +72,40 @@ impl Range {
             return false;
         }
         n < self.to
+    }
+}
+
+impl Around {
+    // One more ForAll, with what is kept of all.
+    fn push(self, at: usize, kept: Kept) -> Around
+        requires { ⌜ (self .path .depth < 256) × (at < 65536) ⌝ }
+        ensures { λ r. ⌜ (r .kept ≡ kept) × (entries (r .path) ≡ entries (self .path) ++ at ∷ []) × (r .path .depth ≡ self .path .depth + 1) × (length (r .path .offsets) ≡ 256) ⌝ }
+    {
+        let path = self.path;
+        Around {
+            path: path.push(at),
+            kept,
+        }
+    }
+}
+
+impl Moved {
+    // At another position, with the same progress.
+    fn to(self, at: usize) -> Moved
+        ensures { λ r. ⌜ (r .at ≡ at) × (r .progress ≡ self .progress) ⌝ }
+    {
+        let progress = self.progress;
+        Moved { at, progress }
+    }
+
+    // Constraints in a row, the first at another position.
+    fn row(self, at: usize, left: u64) -> Row
+        ensures { λ r. ⌜ (r .from .at ≡ at) × (r .from .progress ≡ self .progress) × (r .left ≡ left) ⌝ }
+    {
+        Row {
+            from: self.to(at),
+            left,
+        }
     }
 }
 
@@ -98,251 +147,251 @@ impl Progress {
     }
 }
 
-// The assertion of the head at a position.
-fn put_assert(
-    s: &[u8],
-    at: usize,
-    levels: usize,
-    path: &[usize],
-    vars: &[u8],
-    guards: &[u8],
-    kept: Kept,
-    enc: &[u16],
-    range: Range,
-    buf: &mut [u8],
-    p: Progress,
-) -> Moved
-    requires { ⌜ Chained (now s) (now enc) ⌝ }
-    requires { ⌜ Keeps (now s) (now enc) (now path) (now vars) (now guards) kept ⌝ }
-    ensures { λ r. ⌜ PutsUnder (assertPart (encoderIn (now (s .entry)) (now (enc .entry)))) range (onPath (now (s .entry)) (now (path .entry))) (decPred levels (now (s .entry)) at) (writing p (now (buf .entry))) (writing (r .progress) (now (buf .exit))) (r .at) ⌝ }
+// Whether the assertion of a head is written: its number is in the range, and it is not literally true.
+fn is_wanted(s: &[u8], at: usize, levels: usize, range: Range, seen: usize) -> bool
+    ensures { λ r. ⌜ r ≡ wanted range seen (decPred levels (now (s .entry)) at) ⌝ }
 {
-    let seen = p.seen;
     if range.has(seen) {
-        let len = p.len;
-        let start = output::least(len, buf.len());
-        let none = Out::new();
-        let sent = assertion::write_assert(
-            s,
-            path,
-            vars,
-            guards,
-            kept,
-            at,
-            levels,
-            enc,
-            &mut buf[start..],
-            none,
-        );
-        let out = sent.out;
-        return Moved {
-            at: sent.at,
-            progress: p.placed(out.len),
-        };
+        return !task_check::is_literally_true(s, at, levels);
     }
+    false
+}
+
+// Passes a head whose assertion is not written. One that is literally true has no number.
+fn pass_head(s: &[u8], from: Moved, levels: usize) -> Moved
+    ensures { λ r. ⌜ Passes from (decPred levels (now (s .entry)) (from .at)) r ⌝ }
+{
+    let at = from.at;
+    let p = from.progress;
     let walked = task_check::check_pred(s, at, levels);
     let Walked::Next(q, _) = walked else {
-        return Moved { at, progress: p };
+        return from;
     };
+    if task_check::is_literally_true(s, at, levels) {
+        return from.to(q);
+    }
     Moved {
         at: q,
         progress: p.passed(),
     }
 }
 
-// The head at a position: none if it is literally true.
+// Puts the assertion of a head behind the last written byte, from what is kept of the ForAlls around it.
+fn put_assert(
+    s: &[u8],
+    from: Moved,
+    levels: usize,
+    kept: Kept,
+    text: &[u8],
+    enc: &[u16],
+    buf: &mut [u8],
+) -> Moved
+    requires { ⌜ Chained (now s) (now enc) × Fits (now text) kept ⌝ }
+    ensures { λ r. ⌜ KeptPlaces (now (s .entry)) (now (enc .entry)) (now (text .entry)) kept (decPred levels (now (s .entry)) (from .at)) (writing (from .progress) (now (buf .entry))) (writing (r .progress) (now (buf .exit))) (r .at) ⌝ }
+{
+    let at = from.at;
+    let p = from.progress;
+    let start = output::least(p.len, buf.len());
+    let sent = assertion::write_assert(
+        s,
+        at,
+        levels,
+        kept,
+        text,
+        enc,
+        &mut buf[start..],
+        Out::new(),
+    );
+    let out = sent.out;
+    Moved {
+        at: sent.at,
+        progress: p.placed(out.len),
+    }
+}
+
+// The same from the path, of which only the number of guards is kept.
+fn put_long_assert(
+    s: &[u8],
+    from: Moved,
+    levels: usize,
+    path: Path,
+    count: u64,
+    enc: &[u16],
+    buf: &mut [u8],
+) -> Moved
+    requires { ⌜ Chained (now s) (now enc) × Leaves path 0 ⌝ }
+    requires { ⌜ Counts countAll (onPath (now s) (entries path)) 0 count ⌝ }
+    ensures { λ r. ⌜ PathPlaces (encoderIn (now (s .entry)) (now (enc .entry))) (onPath (now (s .entry)) (entries path)) (decPred levels (now (s .entry)) (from .at)) (writing (from .progress) (now (buf .entry))) (writing (r .progress) (now (buf .exit))) (r .at) ⌝ }
+{
+    let at = from.at;
+    let p = from.progress;
+    let start = output::least(p.len, buf.len());
+    let sent = assertion::write_long_assert(
+        s,
+        at,
+        levels,
+        path,
+        count,
+        enc,
+        &mut buf[start..],
+        Out::new(),
+    );
+    let out = sent.out;
+    Moved {
+        at: sent.at,
+        progress: p.placed(out.len),
+    }
+}
+
+// A head inside ForAlls of which binders and guards are kept.
+fn flatten_kept_head(
+    s: &[u8],
+    from: Moved,
+    levels: usize,
+    kept: Kept,
+    text: &[u8],
+    enc: &[u16],
+    range: Range,
+    buf: &mut [u8],
+) -> Moved
+    requires { ⌜ Chained (now s) (now enc) × Fits (now text) kept ⌝ }
+    ensures { λ r. ⌜ KeptPuts (now (s .entry)) (now (enc .entry)) (now (text .entry)) kept range (decPred levels (now (s .entry)) (from .at)) (writing (from .progress) (now (buf .entry))) (writing (r .progress) (now (buf .exit))) (r .at) ⌝ }
+{
+    let p = from.progress;
+    if is_wanted(s, from.at, levels, range, p.seen) {
+        return put_assert(s, from, levels, kept, text, enc, buf);
+    }
+    pass_head(s, from, levels)
+}
+
+// Any head.
 fn flatten_head(
     s: &[u8],
-    at: usize,
+    from: Moved,
     levels: usize,
-    path: &[usize],
-    vars: &[u8],
-    guards: &[u8],
-    kept: Kept,
+    around: Around,
+    text: &[u8],
     enc: &[u16],
     range: Range,
     buf: &mut [u8],
-    p: Progress,
 ) -> Moved
-    requires { ⌜ Chained (now s) (now enc) ⌝ }
-    requires { ⌜ Keeps (now s) (now enc) (now path) (now vars) (now guards) kept ⌝ }
-    ensures { λ r. ⌜ PutsUnder (headParts (encoderIn (now (s .entry)) (now (enc .entry)))) range (onPath (now (s .entry)) (now (path .entry))) (decPred levels (now (s .entry)) at) (writing p (now (buf .entry))) (writing (r .progress) (now (buf .exit))) (r .at) ⌝ }
+    requires { ⌜ Ready (now s) (now enc) (now text) around levels ⌝ }
+    ensures { λ r. ⌜ PutsUnder (headParts (encoderIn (now (s .entry)) (now (enc .entry)))) range (onPath (now (s .entry)) (entries (around .path))) (decPred levels (now (s .entry)) (from .at)) (writing (from .progress) (now (buf .entry))) (writing (r .progress) (now (buf .exit))) (r .at) ⌝ }
 {
-    if task_check::is_literally_true(s, at, levels) {
-        let walked = task_check::check_pred(s, at, levels);
-        let Walked::Next(q, _) = walked else {
-            return Moved { at, progress: p };
-        };
-        return Moved { at: q, progress: p };
+    let kept = around.kept;
+    if kept.has {
+        return flatten_kept_head(s, from, levels, kept, text, enc, range, buf);
     }
-    put_assert(s, at, levels, path, vars, guards, kept, enc, range, buf, p)
+    let p = from.progress;
+    if is_wanted(s, from.at, levels, range, p.seen) {
+        return put_long_assert(s, from, levels, around.path, kept.count, enc, buf);
+    }
+    pass_head(s, from, levels)
 }
 
-// The constraint at a position, inside the ForAlls of the path.
+// Whether a head stands at a position and all that it needs is kept: then the walk over it takes no path.
+fn is_light(s: &[u8], at: usize, levels: usize, kept: Kept) -> bool
+    ensures { λ r. ⌜ r ≡ (kept .has && isHead levels (now (s .entry)) at) ⌝ }
+{
+    if kept.has {
+        return constraint_check::is_head(s, at, levels);
+    }
+    false
+}
+
+// The constraint at a position, inside the ForAlls around it.
 pub fn flatten_constraint(
     s: &[u8],
-    at: usize,
+    from: Moved,
     levels: usize,
-    path: &[usize],
+    around: Around,
     enc: &[u16],
     range: Range,
     buf: &mut [u8],
-    p: Progress,
-    vars: &mut [u8],
-    guards: &mut [u8],
-    kept: Kept,
+    text: &mut [u8],
 ) -> Moved
-    requires { ⌜ Chained (now s) (now enc) ⌝ }
-    requires { ⌜ (length (now path) + levels ≤ 256) × Keeps (now s) (now enc) (now path) (now vars) (now guards) kept ⌝ }
-    ensures { λ r. ⌜ PutsUnder (clauseParts (encoderIn (now (s .entry)) (now (enc .entry)))) range (onPath (now (s .entry)) (now (path .entry))) (decConstraint levels (now (s .entry)) at) (writing p (now (buf .entry))) (writing (r .progress) (now (buf .exit))) (r .at) ⌝ }
-    ensures { λ r. ⌜ Stays kept (now (vars .entry)) (now (guards .entry)) (now (vars .exit)) (now (guards .exit)) ⌝ }
+    requires { ⌜ Ready (now s) (now enc) (now text) around levels ⌝ }
+    ensures { λ r. ⌜ PutsUnder (clauseParts (encoderIn (now (s .entry)) (now (enc .entry)))) range (onPath (now (s .entry)) (entries (around .path))) (decConstraint levels (now (s .entry)) (from .at)) (writing (from .progress) (now (buf .entry))) (writing (r .progress) (now (buf .exit))) (r .at) ⌝ }
+    ensures { λ r. ⌜ Stays (around .kept) (now (text .entry)) (now (text .exit)) ⌝ }
 {
-    let stays = Moved { at, progress: p };
     if levels == 0 {
-        return stays;
+        return from;
     }
     let below = levels - 1;
-    let node = task::read_constraint_node(s, at);
+    let node = task::read_constraint_node(s, from.at);
     match node {
         ConstraintNode::Pred(q) => {
-            flatten_head(s, q, below, path, vars, guards, kept, enc, range, buf, p)
+            flatten_head(s, from.to(q), below, around, text, enc, range, buf)
         }
         ConstraintNode::Conj(n, q) => {
-            flatten_members(s, q, n, below, path, enc, range, buf, p, vars, guards, kept)
+            flatten_members(s, from.row(q, n), below, around, enc, range, buf, text)
         }
         ConstraintNode::ForAll(q) => {
-            flatten_for_all(s, q, below, path, enc, range, buf, p, vars, guards, kept)
+            flatten_for_all(s, from.to(q), below, around, enc, range, buf, text)
         }
-        ConstraintNode::Refused => stays,
+        ConstraintNode::Refused => from,
     }
 }
 
-// n constraints in a row, each inside the same ForAlls.
+// Constraints in a row, each inside the same ForAlls. A head needs no copy of the path.
 fn flatten_members(
     s: &[u8],
-    at: usize,
-    n: u64,
+    row: Row,
     levels: usize,
-    path: &[usize],
+    around: Around,
     enc: &[u16],
     range: Range,
     buf: &mut [u8],
-    p: Progress,
-    vars: &mut [u8],
-    guards: &mut [u8],
-    kept: Kept,
+    text: &mut [u8],
 ) -> Moved
-    requires { ⌜ Chained (now s) (now enc) ⌝ }
-    requires { ⌜ (length (now path) + levels ≤ 256) × Keeps (now s) (now enc) (now path) (now vars) (now guards) kept ⌝ }
-    ensures { λ r. ⌜ PutsUnder (memberParts (encoderIn (now (s .entry)) (now (enc .entry)))) range (onPath (now (s .entry)) (now (path .entry))) (many Constraints.none Constraints.more (decConstraint levels) n (now (s .entry)) at) (writing p (now (buf .entry))) (writing (r .progress) (now (buf .exit))) (r .at) ⌝ }
-    ensures { λ r. ⌜ Stays kept (now (vars .entry)) (now (guards .entry)) (now (vars .exit)) (now (guards .exit)) ⌝ }
+    requires { ⌜ Ready (now s) (now enc) (now text) around levels ⌝ }
+    ensures { λ r. ⌜ PutsUnder (memberParts (encoderIn (now (s .entry)) (now (enc .entry)))) range (onPath (now (s .entry)) (entries (around .path))) (many Constraints.none Constraints.more (decConstraint levels) (row .left) (now (s .entry)) (row .from .at)) (writing (row .from .progress) (now (buf .entry))) (writing (r .progress) (now (buf .exit))) (r .at) ⌝ }
+    ensures { λ r. ⌜ Stays (around .kept) (now (text .entry)) (now (text .exit)) ⌝ }
 {
-    let mut q = at;
-    let mut left = n;
-    let mut progress = p;
+    let kept = around.kept;
+    let mut walk = row.from;
+    let mut left = row.left;
     while 0 < left {
-        let one = flatten_constraint(
-            s,
-            q,
-            levels,
-            path,
-            enc,
-            range,
-            buf,
-            progress,
-            vars,
-            guards,
-            kept,
-        );
-        q = one.at;
-        progress = one.progress;
         left -= 1;
+        let at = walk.at;
+        if is_light(s, at, levels, kept) {
+            walk = flatten_kept_head(s, walk.to(at + 1), levels - 1, kept, text, enc, range, buf);
+            continue;
+        }
+        walk = flatten_constraint(s, walk, levels, around, enc, range, buf, text);
     }
-    Moved { at: q, progress }
+    walk
 }
 
 // A ForAll behind its code: its body is inside it too.
 fn flatten_for_all(
     s: &[u8],
-    at: usize,
+    from: Moved,
     levels: usize,
-    path: &[usize],
+    mut around: Around,
     enc: &[u16],
     range: Range,
     buf: &mut [u8],
-    p: Progress,
-    vars: &mut [u8],
-    guards: &mut [u8],
-    kept: Kept,
+    text: &mut [u8],
 ) -> Moved
-    requires { ⌜ Chained (now s) (now enc) ⌝ }
-    requires { ⌜ (length (now path) + levels < 256) × Keeps (now s) (now enc) (now path) (now vars) (now guards) kept ⌝ }
-    ensures { λ r. ⌜ PutsUnder (clauseParts (encoderIn (now (s .entry)) (now (enc .entry)))) range (onPath (now (s .entry)) (now (path .entry))) (forAll levels (now (s .entry)) at) (writing p (now (buf .entry))) (writing (r .progress) (now (buf .exit))) (r .at) ⌝ }
-    ensures { λ r. ⌜ Stays kept (now (vars .entry)) (now (guards .entry)) (now (vars .exit)) (now (guards .exit)) ⌝ }
+    requires { ⌜ Ready (now s) (now enc) (now text) around (levels + 1) ⌝ }
+    ensures { λ r. ⌜ PutsUnder (clauseParts (encoderIn (now (s .entry)) (now (enc .entry)))) range (onPath (now (s .entry)) (entries (around .path))) (forAll levels (now (s .entry)) (from .at)) (writing (from .progress) (now (buf .entry))) (writing (r .progress) (now (buf .exit))) (r .at) ⌝ }
+    ensures { λ r. ⌜ Stays (around .kept) (now (text .entry)) (now (text .exit)) ⌝ }
 {
-    let stays = Moved { at, progress: p };
+    let at = from.at;
     let binder = task_check::check_binder(s, at, levels);
     let Walked::Next(q, _) = binder else {
-        return stays;
+        return from;
     };
     let number = task::number_at(s, q, 2);
     let Number::Value(n, first) = number else {
-        return stays;
+        return from;
     };
     let preds = task_check::check_preds(s, first, n, levels);
     let Walked::Next(body, _) = preds else {
-        return stays;
+        return from;
     };
-    flatten_body(
-        s,
-        body,
-        levels,
-        at,
-        path,
-        enc,
-        range,
-        buf,
-        p,
-        vars,
-        guards,
-        kept,
-    )
-}
-
-// The body of the ForAll at an offset, with the ForAll on the path and kept with it.
-fn flatten_body(
-    s: &[u8],
-    at: usize,
-    levels: usize,
-    offset: usize,
-    path: &[usize],
-    enc: &[u16],
-    range: Range,
-    buf: &mut [u8],
-    p: Progress,
-    vars: &mut [u8],
-    guards: &mut [u8],
-    kept: Kept,
-) -> Moved
-    requires { ⌜ Chained (now s) (now enc) ⌝ }
-    requires { ⌜ (length (now path) + levels < 256) × Keeps (now s) (now enc) (now path) (now vars) (now guards) kept ⌝ }
-    ensures { λ r. ⌜ PutsUnder (clauseParts (encoderIn (now (s .entry)) (now (enc .entry)))) range (onPath (now (s .entry)) (now (path .entry) ++ offset ∷ [])) (decConstraint levels (now (s .entry)) at) (writing p (now (buf .entry))) (writing (r .progress) (now (buf .exit))) (r .at) ⌝ }
-    ensures { λ r. ⌜ Stays kept (now (vars .entry)) (now (guards .entry)) (now (vars .exit)) (now (guards .exit)) ⌝ }
-{
-    let own = assertion::extend(s, offset, enc, vars, guards, kept);
-    let inner = Path::push(path, offset);
-    let offsets = inner.offsets;
-    let n = inner.depth;
-    flatten_constraint(
-        s,
-        at,
-        levels,
-        &offsets[..n],
-        enc,
-        range,
-        buf,
-        p,
-        vars,
-        guards,
-        own,
-    )
+    let kept = assertion::extend(s, at, enc, text, around.kept);
+    around = around.push(at, kept);
+    flatten_constraint(s, from.to(body), levels, around, enc, range, buf, text)
 }

@@ -11,7 +11,7 @@ use lib.ListN.{length}
 use borrow.Author.Tests.{le-leb, lt-leb}
 use Rattle.task.specs.declared.Fault.{Fault}
 use Rattle.task.specs.declared.Fault.the-variants.{Sound}
-use Rattle.task.specs.Decode.{Res, got, refuse, bind, Decoder, items, section, comment, datatype, constant, function, kvar}
+use Rattle.task.specs.Decode.{Res, got, refuse, bind, Decoder, items, comment, datatype, constant, function, kvar}
 use Rattle.task.specs.Fault.{lower, each, textFault, datatypeFault, binderFault, functionFault, kvarFault}
 use Rattle.task.specs.Covers.{CoversSome}
 use Rattle.task.proofs.Judging.{lower-sound, sound-lower, lower-assoc}

@@ -2,7 +2,7 @@
 use mathlib.Core.Path.{_≡_, refl, sym, ap, subst, _∙_}
 use mathlib.Core.Bool.{Bool, true, false, cond}
 use mathlib.Core.List.{List, [], _∷_}
-use Prim.Native.Nat.{ℕ, _+_, _≤_}
+use Prim.Native.Nat.{ℕ, _+_, _<_, _≤_}
 use native.Mathlib.Nat.{zero-add, add-assoc}
 use lib.Dec.{eqb}
 use lib.ListN.{length, take, length-take}
@@ -191,6 +191,10 @@ module _ (file : List ℕ) where
     module _ (b : Bounds) (e' : r ≡ trailer-is.Read b) where
       pub inspect-inside : Inside file b
       inspect-inside = let h = trailer-read file r e b e' in subst (Inside file) (sym (h .1)) (framed-is file (h .0))
+
+      -- two bytes hold each offset of the constraint
+      pub inspect-short : length (take (b .end) file) < 65536
+      inspect-short = let m = inspect-inside .most in let l = length-take (b .end) file in omega arith
 
       by-parts : (l : Listed) (c : Counted) → l ≡ itemsOf file b → c ≡ tally (constraintFault []) headsOf (decConstraint deepest (take (b .end) file) (b .constraint))
           → finish b l c ≡ inspectedOf file (taskOf file)

@@ -11,7 +11,6 @@ use Rattle.names.specs.declared.Kind.the-variants.{KVar, Field, Constant, Funct
 use Rattle.names.specs.Table.{numberOf, entries, namesOf}
 use Rattle.names.proofs.Theorems.{names-append}
 use Rattle.declared.specs.Symbols.{alone, together, named, ctorSymbols, ctorsSymbols, datatypeSymbols, functionSymbols, kvarSymbols, symbolsOf}
-use Rattle.smt_text.specs.Encoder.{encoder}
 use Rattle.smt_sort.specs.Section.{declaredIn, encoderIn}
 use Rattle.parts.specs.Whole.{EncoderIs}
 

@@ -1,8 +1,9 @@
 -- What the parts of a file add up to: its declarations, its assertions, its script.
-use mathlib.Core.Path.{_≡_, refl, sym, ap, _∙_, subst}
+use mathlib.Core.Path.{_≡_, sym, ap, _∙_, subst}
 use mathlib.Core.List.{List, [], _∷_, _++_}
-use Prim.Native.Nat.{ℕ}
-use lib.ListN.{take}
+use Prim.Native.Nat.{ℕ, _/_, _≤_}
+use native.Mathlib.Omega.{arith}
+use lib.ListN.{length, take}
 use Rattle.smtlib.specs.Lexicon.{bytes}
 use Rattle.task.specs.Ast.{Task}
 use Rattle.task.specs.Decode.{got, comment, datatype, constant, function, kvar, section, decConstraint, deepest}
@@ -14,7 +15,10 @@ use Rattle.item_check.specs.declared.Section.the-variants.{Datatypes, Constants
 use Rattle.inspect.specs.declared.Bounds.{Bounds}
 use Rattle.inspect.specs.Inspect.{boundsOf}
 use Rattle.inspect.specs.Walk.{startOf, endOf}
-use Rattle.names.specs.Table.{entries}
+use Rattle.path.specs.declared.Path.{Path}
+use Rattle.path.specs.Offsets.{entries as offsetsOn}
+use Rattle.path.proofs.Entries.{leaves-empty}
+use Rattle.names.specs.Table.{Chained, entries}
 use Rattle.declared.specs.Symbols.{symbolsOf}
 use Rattle.smt_text.specs.Encoder.{Encoder, encoder}
 use Rattle.smt_text.specs.Text.{write-datatype-decl, write-const-decl, write-fun-def, write-kvar-decl}
@@ -22,10 +26,13 @@ use Rattle.smt_sort.specs.Section.{encoderIn}
 use Rattle.horn_text.specs.Clauses.{clausesOf}
 use Rattle.horn_text.specs.Script.{write-asserts, opening, declarationParts, closing, partsOf}
 use Rattle.task.proofs.Opened.{Opened, opened}
+use Rattle.assertion.specs.declared.Kept.{Kept}
 use Rattle.assertion.specs.Under.{onPath}
+use Rattle.assertion.proofs.Keeping.{keeps-start}
 use Rattle.flatten.specs.declared.Range.{Range}
 use Rattle.flatten.specs.declared.Progress.{Progress}
 use Rattle.flatten.specs.Parts.{Writing, writing, put, puts, PutsUnder, Puts, clauseParts}
+use Rattle.flatten.specs.Walk.{Ready}
 use Rattle.flatten.proofs.Lending.{puts-append}
 use Rattle.task.proofs.Sections.{in-whole, section-made}
 use Rattle.parts.proofs.Encoders.{encoder-is}
@@ -62,12 +69,23 @@ declarations-put file enc b r w w1 w2 w3 w4 u1 u2 u3 u4 us q e =
 
 -- ASSERTIONS
 
-pub assertions-put : (file enc : List ℕ) (b : Bounds) (r : Range) (w w' : Writing) (q : ℕ)
-    → PutsUnder (clauseParts (encoderIn file enc)) r (onPath file []) (decConstraint deepest file (b .constraint)) w w' q
+-- the walk may begin without ForAlls around it
+pub ready-start : (file enc text : List ℕ) (p : Path) (k : Kept) → length file ≤ 60000 → Chained file enc → (offsetsOn p ≡ []) × (p .depth ≡ 0) × (length (p .offsets) ≡ 256)
+    → (k .vars ≡ 0) × (k .middle ≡ length text / 2) × (k .guards ≡ length text / 2) × (k .count ≡ 0) → length text ≤ 32768
+    → Ready file enc text (record { path = p; kept = k }) deepest
+ready-start file enc text p k f h e g l = record {
+  short = omega arith;
+  chained = h;
+  leaves = leaves-empty p e;
+  keeps = rw (e .0) (keeps-start file enc text (length text / 2) k g (omega arith) (omega arith));
+}
+
+pub assertions-put : (file enc : List ℕ) (b : Bounds) (os : List ℕ) (r : Range) (w w' : Writing) (q : ℕ) → os ≡ []
+    → PutsUnder (clauseParts (encoderIn file enc)) r (onPath file os) (decConstraint deepest file (b .constraint)) w w' q
     → PutsAll (assertionParts file enc) r (constraintIn file b) w w'
 unfolding PutsAll PutsUnder Puts assertionParts onPath
-assertions-put file enc b r w w' q u c p g =
-    u [] 0 refl c p (in-whole (decConstraint deepest) (each-covers .constraints deepest) file (b .end) (b .constraint) c p g) .1
+assertions-put file enc b os r w w' q e u c p g =
+    u [] 0 (rw e) c p (in-whole (decConstraint deepest) (each-covers .constraints deepest) file (b .end) (b .constraint) c p g) .1
 
 -- THE SCRIPT
 

@@ -1,12 +1,14 @@
 // The parts of a script and the walk over those in a range, `write_smt_horn` of `smt_horn.rs`: the opening, the declarations, the blank line,
 // the assertions, the closing. Each is written into the buffer behind the last written byte, and counted.
 use assertion::Kept;
+use flatten::Around;
 use flatten::Moved;
 use flatten::Progress;
 use flatten::Range;
 use inspect::Bounds;
 use item_check::Section;
 use output::Out;
+use path::Path;
 use smt_word::Sent;
 use task::SpanRead;
 use task_check::Walked;
@@ -213,7 +215,8 @@ fn put_declarations(
     put_items(file, b, Section::KVars, enc, range, buf, p3)
 }
 
-// The assertions, each as a part. The text of a path is kept in two lent slices, whatever they hold.
+// The assertions, each as a part. What is kept of a path stands in a lent text, whatever it holds: binders in its first half, guards in the
+// other.
 fn put_kept(
     file: &[u8],
     b: Bounds,
@@ -221,33 +224,25 @@ fn put_kept(
     range: Range,
     buf: &mut [u8],
     p: Progress,
-    vars: &mut [u8],
-    guards: &mut [u8],
+    text: &mut [u8],
 ) -> Progress
     requires { ⌜ Inside (now file) b × Chained (now file) (now enc) ⌝ }
-    requires { ⌜ (length (now vars) ≤ 16384) × (length (now guards) ≤ 16384) ⌝ }
+    requires { ⌜ length (now text) ≤ 32768 ⌝ }
     ensures { λ r. ⌜ PutsAll (assertionParts (now (file .entry)) (now (enc .entry))) range (constraintIn (now (file .entry)) b) (writing p (now (buf .entry))) (writing r (now (buf .exit))) ⌝ }
 {
-    let at = b.constraint;
-    let path = [0usize; 0];
-    let kept = Kept::start();
-    let moved = flatten::flatten_constraint(
-        file,
-        at,
-        256,
-        &path,
-        enc,
-        range,
-        buf,
-        p,
-        vars,
-        guards,
-        kept,
-    );
+    let from = Moved {
+        at: b.constraint,
+        progress: p,
+    };
+    let around = Around {
+        path: Path::empty(),
+        kept: Kept::start(text.len() / 2),
+    };
+    let moved = flatten::flatten_constraint(file, from, 256, around, enc, range, buf, text);
     moved.progress
 }
 
-// The assertions, each as a part. A short file does not wait for long slices to be cleared.
+// The assertions, each as a part. A short file does not wait for a long text to be cleared.
 fn put_assertions(
     file: &[u8],
     b: Bounds,
@@ -260,13 +255,11 @@ fn put_assertions(
     ensures { λ r. ⌜ PutsAll (assertionParts (now (file .entry)) (now (enc .entry))) range (constraintIn (now (file .entry)) b) (writing p (now (buf .entry))) (writing r (now (buf .exit))) ⌝ }
 {
     if file.len() <= 1000 {
-        let mut vars = [0u8; 2048];
-        let mut guards = [0u8; 2048];
-        return put_kept(file, b, enc, range, buf, p, &mut vars, &mut guards);
+        let mut text = [0u8; 4096];
+        return put_kept(file, b, enc, range, buf, p, &mut text);
     }
-    let mut vars = [0u8; 16384];
-    let mut guards = [0u8; 16384];
-    put_kept(file, b, enc, range, buf, p, &mut vars, &mut guards)
+    let mut text = [0u8; 32768];
+    put_kept(file, b, enc, range, buf, p, &mut text)
 }
 
 // Puts the parts in the range into the buffer, one behind the other: what has room is stored, and all is counted. The encoder is a table of

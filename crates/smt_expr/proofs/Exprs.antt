@@ -37,6 +37,10 @@ pub exprs-row : (enc : Encoder) → Row Exprs.none Exprs.more (write-expr enc) (
 unfolding write-expr write-exprs
 exprs-row enc = record { none = refl; step = λ e es. refl }
 
+-- the same position under another name
+pub ends-at : {A : Type 0} (text : A → List ℕ) (d : Res A) (o o' : Output) (r q : ℕ) → r ≡ q → Sends text d o o' q → Sends text d o o' r
+ends-at text d o o' r q e w = rw e w
+
 -- an expression by its node
 pub expr-none : (enc : Encoder) (l : ℕ) (s : List ℕ) (at : ℕ) (o o' : Output) (r : ℕ) → l ≡ 0 → Sends (write-expr enc) (decExpr l s at) o o' r
 unfolding decExpr

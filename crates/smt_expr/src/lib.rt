@@ -9,11 +9,12 @@ use task::Number;
 use task::Quantifier;
 use task::Span;
 use task_check::Walked;
+ghost use mathlib.Core.Path.{_≡_};
 ghost use Rattle.task.specs.Ast.{Exprs};
 ghost use Rattle.task.specs.Decode.{many, given, decExpr};
 ghost use Rattle.task.specs.Node.{exprOf};
 ghost use Rattle.smt_text.specs.Text.{write-bin-op, write-expr};
-ghost use Rattle.output.specs.Emit.{output, Sends};
+ghost use Rattle.output.specs.Emit.{output, emit, Sends};
 ghost use Rattle.names.specs.Table.{Chained};
 ghost use Rattle.smt_sort.specs.Section.{encoderIn};
 ghost use Rattle.smt_expr.specs.Parts.{two, exprsText, unaryText, binaryText, atomText, naryText, TellsQualified, HeadSends};
@@ -55,8 +56,12 @@ pub fn write_expr(s: &[u8], at: usize, levels: usize, enc: &[u16], buf: &mut [u8
         ExprNode::Atom(rel, p) => write_atom(s, rel, p, below, enc, buf, out),
         ExprNode::Imp(p) => write_binary(s, b"=>", p, below, enc, buf, out),
         ExprNode::Iff(p) => write_binary(s, b"=", p, below, enc, buf, out),
-        ExprNode::And(n, p) => write_nary(s, b"and", n, b"true", p, below, enc, buf, out),
-        ExprNode::Or(n, p) => write_nary(s, b"or", n, b"false", p, below, enc, buf, out),
+        ExprNode::And(n, p) => {
+            write_nary(s, b"and", n, b"true", Sent { at: p, out }, below, enc, buf)
+        }
+        ExprNode::Or(n, p) => {
+            write_nary(s, b"or", n, b"false", Sent { at: p, out }, below, enc, buf)
+        }
         ExprNode::IfThenElse(p) => write_ite(s, p, below, enc, buf, out),
         ExprNode::Let(x, p) => write_let(s, x, p, below, enc, buf, out),
         ExprNode::App(has, p) => write_app(s, has, p, below, enc, buf, out),
@@ -206,33 +211,41 @@ fn write_ne(s: &[u8], at: usize, levels: usize, enc: &[u16], buf: &mut [u8], out
     }
 }
 
-// A connective of n members; a word of its own for none.
+// Sends the parenthesis behind the last of a list.
+fn close_list(last: Sent, buf: &mut [u8]) -> Sent
+    ensures { λ r. ⌜ (r .at ≡ last .at) × (output (now (buf .exit)) (r .out .len) ≡ emit (output (now (buf .entry)) (last .out .len)) 41) ⌝ }
+{
+    let sent = last.out;
+    let closed = sent.byte(buf, b')');
+    Sent {
+        at: last.at,
+        out: closed,
+    }
+}
+
+// A connective of n members, the first at a position; a word of its own for none.
 fn write_nary(
     s: &[u8],
     op: &[u8],
     n: u64,
     empty: &[u8],
-    at: usize,
+    from: Sent,
     levels: usize,
     enc: &[u16],
     buf: &mut [u8],
-    out: Out,
 ) -> Sent
     requires { ⌜ Chained (now s) (now enc) ⌝ }
-    ensures { λ r. ⌜ Sends (naryText (encoderIn (now (s .entry)) (now (enc .entry))) (now (op .entry)) (now (empty .entry))) (many Exprs.none Exprs.more (decExpr levels) n (now (s .entry)) at) (output (now (buf .entry)) (out .len)) (output (now (buf .exit)) (r .out .len)) (r .at) ⌝ }
+    ensures { λ r. ⌜ Sends (naryText (encoderIn (now (s .entry)) (now (enc .entry))) (now (op .entry)) (now (empty .entry))) (many Exprs.none Exprs.more (decExpr levels) n (now (s .entry)) (from .at)) (output (now (buf .entry)) (from .out .len)) (output (now (buf .exit)) (r .out .len)) (r .at) ⌝ }
 {
+    let at = from.at;
+    let out = from.out;
     if n == 0 {
         return smt_word::write_word(empty, at, buf, out);
     }
     let opened = out.byte(buf, b'(');
     let named = opened.bytes(buf, op);
     let members = write_exprs(s, at, n, levels, enc, buf, named);
-    let sent = members.out;
-    let closed = sent.byte(buf, b')');
-    Sent {
-        at: members.at,
-        out: closed,
-    }
+    close_list(members, buf)
 }
 
 // A choice of two.
@@ -404,10 +417,5 @@ fn write_app(
     let head = write_application_head(s, has, at, q, levels, enc, buf, opened);
     let named = head.out;
     let args = write_exprs(s, t, n, levels, enc, buf, named);
-    let sent = args.out;
-    let closed = sent.byte(buf, b')');
-    Sent {
-        at: args.at,
-        out: closed,
-    }
+    close_list(args, buf)
 }

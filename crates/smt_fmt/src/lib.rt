@@ -366,28 +366,28 @@ fn write_arg_list(
     rest.byte(buf, b')')
 }
 
-// Sends the definition of a function of the n sorts at a position, whose own sort stands at `from` and whose body at `inner`.
+// Sends the definition of a function of the n sorts at a position, whose own sort stands at `from`, where its body stands.
 fn write_definition(
     s: &[u8],
     x: Span,
     n: u64,
     at: usize,
     from: usize,
-    inner: usize,
+    inner: Sent,
     enc: &[u16],
     buf: &mut [u8],
-    out: Out,
 ) -> Sent
     requires { ⌜ Chained (now s) (now enc) ⌝ }
-    ensures { λ r. ⌜ BodySends (encoderIn (now (s .entry)) (now (enc .entry))) (bytesOf (now (s .entry)) x) (many Sorts.none Sorts.more (decSort deepest) n (now (s .entry)) at) (decSort deepest (now (s .entry)) from) (body true (now (s .entry)) inner) (output (now (buf .entry)) (out .len)) (output (now (buf .exit)) (r .out .len)) (r .at) ⌝ }
+    ensures { λ r. ⌜ BodySends (encoderIn (now (s .entry)) (now (enc .entry))) (bytesOf (now (s .entry)) x) (many Sorts.none Sorts.more (decSort deepest) n (now (s .entry)) at) (decSort deepest (now (s .entry)) from) (body true (now (s .entry)) (inner .at)) (output (now (buf .entry)) (inner .out .len)) (output (now (buf .exit)) (r .out .len)) (r .at) ⌝ }
 {
-    let count = task::number_at(s, inner, 2);
+    let out = inner.out;
+    let count = task::number_at(s, inner.at, 2);
     let Number::Value(m, p) = count else {
-        return Sent { at, out };
+        return inner;
     };
     let names = item_check::check_names(s, p, m);
     let Walked::Next(q, _) = names else {
-        return Sent { at, out };
+        return inner;
     };
     let opened = out.bytes(buf, b"(define-fun ");
     let named = opened.name(buf, s, x);
@@ -440,7 +440,7 @@ fn write_function(
         return Sent { at, out };
     };
     if has {
-        return write_definition(s, x, n, at, from, q, enc, buf, out);
+        return write_definition(s, x, n, at, from, Sent { at: q, out }, enc, buf);
     }
     let sent = write_fun_signature(s, x, n, at, from, enc, buf, out);
     Sent { at: q, out: sent }

@@ -1,11 +1,18 @@
 -- `extend`: the ForAll's binder and guards behind those that are kept, if both fit.
-use Rattle.assertion.proofs.Keeping.{extends-not, extends-none, extends-both, lent-stays}
+use Rattle.assertion.proofs.Keeping.{set-is, stays-same, extends-none, extends-both, lent-stays}
+use native.Mathlib.Omega.{arith}
 use borrow.Author.Needs.{needs}
 use Rattle.assertion.proofs.extend.Statement.{statement}
 use Rattle.assertion.proofs.extend.Tie as tie
 
+count-own-guards-requires : tie.Need-count-own-guards-requires
+count-own-guards-requires c κs = search needs
+
+counted-requires : tie.Need-counted-requires
+counted-requires c κs = search needs
+
 returns : tie.Need-returns
-returns c = extends-not _ _ _ _ _ _ (c .before .before .before .before .before .before .pre .1) (c .if1 .taken)
+returns c = extends-none _ _ _ _ _ (c .before .before .before .before .before .before .before .pre .1) _ (c .before .before .before .count-own-guards .ensures) _ _ (c .counted .ensures) (stays-same _ _)
 
 sub-vars-left : tie.Need-sub-vars-left
 sub-vars-left c = search needs
@@ -43,52 +50,42 @@ new-requires-2 c κs = search needs
 write-own-guards-requires : tie.Need-write-own-guards-requires
 write-own-guards-requires c κs = search needs
 
-no-more-requires : tie.Need-no-more-requires
-no-more-requires c κs = search needs
+counted-requires-2 : tie.Need-counted-requires-2
+counted-requires-2 c κs = search needs
 
 same-length : tie.Need-same-length
 same-length c = search needs
 
+returns-2 : tie.Need-returns-2
+returns-2 c = extends-none (c .before .before .before .before .before .before .before .before .before .before .before .before .before .before .before .before .before .before .before .before .args .s .now) (c .before .before .before .before .before .before .before .before .before .before .before .before .before .before .before .before .before .before .before .before .args .enc .now) (c .before .before .before .before .before .before .before .before .before .before .before .before .before .before .before .before .before .before .before .before .args .at) _ _ (c .before .before .before .before .before .before .before .before .before .before .before .before .before .before .before .before .before .before .before .before .pre .1) _ (c .before .before .before .before .before .before .before .before .before .before .before .before .before .before .before .before .count-own-guards .ensures) _ _ (c .counted2 .ensures) (lent-stays (c .before .before .before .before .before .before .before .before .before .before .before .before .before .before .before .before .before .before .before .before .args .s .now) (c .before .before .before .before .before .before .before .before .before .before .before .before .before .before .before .before .before .before .before .before .args .enc .now) (c .before .before .before .before .before .before .before .before .before .before .before .before .before .before .before .before .before .before .before .before .args .at) _ _ (c .before .before .before .before .before .before .before .before .before .before .before .before .before .before .before .before .before .before .before .before .pre .1) _ (c .before .before .before .before .before .before .before .before .before .before .before .before .before .before .before .before .count-own-guards .ensures) (c .before .before .before .before .before .before .before .before .before .before .before .write-binder .last .1 .1 .1 .1 .0) (c .before .before .before .before .before .before .before .before .before .before .before .write-binder .kept .1 .1 .1 .1 .0) (c .before .before .before .before .before .before .write-own-guards .last .1 .1 .1 .0) (c .before .before .before .before .before .before .write-own-guards .kept .1 .1 .1 .0))
+
+counted-requires-3 : tie.Need-counted-requires-3
+counted-requires-3 c κs = search needs
+
 same-length-2 : tie.Need-same-length-2
 same-length-2 c = search needs
 
-returns-2 : tie.Need-returns-2
-returns-2 c = extends-none _ _ _ _ _ _ (c .before .before .before .before .before .before .before .before .before .before .before .before .before .before .before .before .before .before .before .pre .1) _ _ _ (c .no-more .ensures) (lent-stays (c .before .before .before .before .before .before .before .before .before .before .before .before .before .before .before .before .before .before .before .args .s .now) (c .before .before .before .before .before .before .before .before .before .before .before .before .before .before .before .before .before .before .before .args .enc .now) (c .before .before .before .before .before .before .before .before .before .before .before .before .before .before .before .before .before .before .before .args .at) _ _ _ (c .before .before .before .before .before .before .before .before .before .before .before .before .before .before .before .before .before .before .before .pre .1) (c .before .before .before .before .before .before .before .before .before .before .write-binder .last .1 .1 .1 .1 .0) (c .before .before .before .before .before .write-own-guards .last .1 .1 .1 .0) (c .before .before .before .before .before .before .before .before .before .before .write-binder .kept .1 .1 .1 .1 .0) (c .before .before .before .before .before .write-own-guards .kept .1 .1 .1 .0))
+returns-3 : tie.Need-returns-3
+returns-3 c = extends-none (c .before .before .before .before .before .before .before .before .before .before .before .before .before .before .before .before .before .before .before .before .before .before .args .s .now) (c .before .before .before .before .before .before .before .before .before .before .before .before .before .before .before .before .before .before .before .before .before .before .args .enc .now) (c .before .before .before .before .before .before .before .before .before .before .before .before .before .before .before .before .before .before .before .before .before .before .args .at) _ _ (c .before .before .before .before .before .before .before .before .before .before .before .before .before .before .before .before .before .before .before .before .before .before .pre .1) _ (c .before .before .before .before .before .before .before .before .before .before .before .before .before .before .before .before .before .before .count-own-guards .ensures) _ _ (c .counted3 .ensures) (lent-stays (c .before .before .before .before .before .before .before .before .before .before .before .before .before .before .before .before .before .before .before .before .before .before .args .s .now) (c .before .before .before .before .before .before .before .before .before .before .before .before .before .before .before .before .before .before .before .before .before .before .args .enc .now) (c .before .before .before .before .before .before .before .before .before .before .before .before .before .before .before .before .before .before .before .before .before .before .args .at) _ _ (c .before .before .before .before .before .before .before .before .before .before .before .before .before .before .before .before .before .before .before .before .before .before .pre .1) _ (c .before .before .before .before .before .before .before .before .before .before .before .before .before .before .before .before .before .before .count-own-guards .ensures) (c .before .before .before .before .before .before .before .before .before .before .before .before .before .write-binder .last .1 .1 .1 .1 .0) (c .before .before .before .before .before .before .before .before .before .before .before .before .before .write-binder .kept .1 .1 .1 .1 .0) (c .before .before .before .before .before .before .before .before .write-own-guards .last .1 .1 .1 .0) (c .before .before .before .before .before .before .before .before .write-own-guards .kept .1 .1 .1 .0))
 
-no-more-requires-2 : tie.Need-no-more-requires-2
-no-more-requires-2 c κs = search needs
+add-t16 : tie.Need-add-t16
+add-t16 c = search needs
+
+add-t24 : tie.Need-add-t24
+add-t24 c = let f = c .before .before .before .before .before .before .before .before .before .before .before .before .before .before .before .before .before .before .before .before .before .before .before .pre .1 .short in let g = c .before .before .before .before .before .before .before .before .before .before .before .before .before .before .before .before .before .before .before .before .before .before .before .pre .1 .inside in let l = c .before .before .if3 .left in omega arith
 
 same-length-3 : tie.Need-same-length-3
 same-length-3 c = search needs
 
-same-length-4 : tie.Need-same-length-4
-same-length-4 c = search needs
-
-returns-3 : tie.Need-returns-3
-returns-3 c = extends-none _ _ _ _ _ _ (c .before .before .before .before .before .before .before .before .before .before .before .before .before .before .before .before .before .before .before .before .pre .1) _ _ _ (c .no-more2 .ensures) (lent-stays (c .before .before .before .before .before .before .before .before .before .before .before .before .before .before .before .before .before .before .before .before .args .s .now) (c .before .before .before .before .before .before .before .before .before .before .before .before .before .before .before .before .before .before .before .before .args .enc .now) (c .before .before .before .before .before .before .before .before .before .before .before .before .before .before .before .before .before .before .before .before .args .at) _ _ _ (c .before .before .before .before .before .before .before .before .before .before .before .before .before .before .before .before .before .before .before .before .pre .1) (c .before .before .before .before .before .before .before .before .before .before .before .write-binder .last .1 .1 .1 .1 .0) (c .before .before .before .before .before .before .write-own-guards .last .1 .1 .1 .0) (c .before .before .before .before .before .before .before .before .before .before .before .write-binder .kept .1 .1 .1 .1 .0) (c .before .before .before .before .before .before .write-own-guards .kept .1 .1 .1 .0))
-
-add-t17 : tie.Need-add-t17
-add-t17 c = search needs
-
-add-t25 : tie.Need-add-t25
-add-t25 c = search needs
-
-count-own-guards-requires : tie.Need-count-own-guards-requires
-count-own-guards-requires c κs = search needs
-
-same-length-5 : tie.Need-same-length-5
-same-length-5 c = search needs
-
-same-length-6 : tie.Need-same-length-6
-same-length-6 c = search needs
-
 returns-4 : tie.Need-returns-4
-returns-4 c = extends-both _ _ _ _ _ _ (c .before .before .before .before .before .before .before .before .before .before .before .before .before .before .before .before .before .before .before .before .pre .1) (c .before .before .before .before .before .before .before .before .before .before .before .write-binder .last .1 .1 .1 .1 .0) (c .before .before .before .before .before .before .write-own-guards .last .1 .1 .1 .0) (c .before .before .before .before .before .before .before .before .before .before .before .write-binder .kept .1 .1 .1 .1 .0) (c .before .before .before .before .before .before .write-own-guards .kept .1 .1 .1 .0) _ _ _ _ _ _ (c .before .before .before .before .before .before .before .before .before .before .before .before .before .before .if1 .left) (c .before .before .before .before .before .before .before .before .before .before .before .before .new .ensures) (c .before .before .before .before .before .before .before .before .before .before .before .write-binder .ensures) (c .before .before .if2 .left) (c .before .before .before .before .before .before .before .new2 .ensures) (c .before .before .before .before .before .before .write-own-guards .ensures) (c .before .if3 .left) (c .count-own-guards .ensures)
+returns-4 c = extends-both (c .before .before .before .before .before .before .before .before .before .before .before .before .before .before .before .before .before .before .before .before .before .before .before .args .s .now) (c .before .before .before .before .before .before .before .before .before .before .before .before .before .before .before .before .before .before .before .before .before .before .before .args .enc .now) (c .before .before .before .before .before .before .before .before .before .before .before .before .before .before .before .before .before .before .before .before .before .before .before .args .at) _ _ (c .before .before .before .before .before .before .before .before .before .before .before .before .before .before .before .before .before .before .before .before .before .before .before .pre .1) _ (c .before .before .before .before .before .before .before .before .before .before .before .before .before .before .before .before .before .before .before .count-own-guards .ensures) (c .before .before .before .before .before .before .before .before .before .before .before .before .before .before .write-binder .last .1 .1 .1 .1 .0) (c .before .before .before .before .before .before .before .before .before .before .before .before .before .before .write-binder .kept .1 .1 .1 .1 .0) (c .before .before .before .before .before .before .before .before .before .write-own-guards .last .1 .1 .1 .0) (c .before .before .before .before .before .before .before .before .before .write-own-guards .kept .1 .1 .1 .0) _ _ _ _ _ (set-is _ (c .before .before .before .before .before .before .before .before .before .before .before .before .before .before .before .before .before .if1 .left)) (c .before .before .before .before .before .before .before .before .before .before .before .before .before .before .before .new .ensures) (c .before .before .before .before .before .before .before .before .before .before .before .before .before .before .write-binder .ensures) (c .before .before .before .before .if2 .left) (c .before .before .before .before .before .before .before .before .before .before .new2 .ensures) (c .before .before .before .before .before .before .before .before .before .write-own-guards .ensures) (c .before .before .if3 .left)
 
 pub extend-spec : {M : Type 1} → statement M
 extend-spec =
     tie.close
     (tie.spec
+    count-own-guards-requires
+    counted-requires
     returns
     sub-vars-left
     sub-guards-left
@@ -102,17 +99,13 @@ extend-spec =
     part-write-own-guards-end
     new-requires-2
     write-own-guards-requires
-    no-more-requires
+    counted-requires-2
     same-length
-    same-length-2
     returns-2
-    no-more-requires-2
-    same-length-3
-    same-length-4
+    counted-requires-3
+    same-length-2
     returns-3
-    add-t17
-    add-t25
-    count-own-guards-requires
-    same-length-5
-    same-length-6
+    add-t16
+    add-t24
+    same-length-3
     returns-4)

@@ -2,47 +2,52 @@
 use borrow.Author.Needs.{needs}
 use mathlib.Core.Path.{_≡_, refl}
 use Prim.Native.Nat.{_-_}
+use native.Mathlib.Omega.{arith}
 use lib.ListN.{length}
+use Rattle.path.specs.Offsets.{entries}
 use Rattle.output.specs.Emit.{output, Sends}
 use Rattle.smt_sort.specs.Section.{encoderIn}
-use Rattle.assertion.proofs.Guards.{vars-steps, Along, along-start, along-more, along-end, binder-runs}
+use Rattle.assertion.proofs.Guards.{vars-steps, Along, along-start, along-offset, along-done, binder-runs}
 use Rattle.assertion.proofs.write_each_var.Statement.{statement}
 use Rattle.assertion.proofs.write_each_var.Tie as tie
 
 abbrev Inv-loop : tie.InvT-loop
-Inv-loop s path enc buf₀ n i₀ sent₀ buf i sent = Along (vars-steps (encoderIn s enc)) s path (output buf₀ (sent₀ .len)) i (output buf (sent .len)) × (length buf ≡ length buf₀) × (n ≡ length path)
+Inv-loop s enc buf₀ path i₀ sent₀ buf i sent = Along (vars-steps (encoderIn s enc)) s (entries path) (output buf₀ (sent₀ .len)) i (output buf (sent .len)) × (length buf ≡ length buf₀)
 
 abbrev μ-loop : tie.MeasureT-loop
-μ-loop s path enc buf₀ n i₀ sent₀ buf i sent = n - i
+μ-loop s enc buf₀ path i₀ sent₀ buf i sent = path .depth - i
 
 loop-holds : tie.Need-loop-holds Inv-loop μ-loop
-loop-holds c = (along-start _ _ _ _, refl, refl)
+loop-holds c = (along-start _ _ _ _, refl)
 
-mul-at : tie.Need-mul-at Inv-loop μ-loop
-mul-at c = search needs
+mul-position : tie.Need-mul-position Inv-loop μ-loop
+mul-position c = let h = c .before .before .before .before .before .pre .1 .within in let t = c .loop-test .taken in omega arith
 
-shared-slice-read-at : tie.Need-shared-slice-read-at Inv-loop μ-loop
-shared-slice-read-at c = rw (← (c .before .before .loop .inv .2)) (c .before .loop-test .taken)
+element-copy-out-position : tie.Need-element-copy-out-position Inv-loop μ-loop
+element-copy-out-position c = let h = c .before .before .before .before .before .pre .1 .within in let t = c .loop-test .taken in omega arith
+
+position-requires : tie.Need-position-requires Inv-loop μ-loop
+position-requires c κs = search needs
 
 write-binder-requires : tie.Need-write-binder-requires Inv-loop μ-loop
-write-binder-requires c κs = search needs
+write-binder-requires c κs = c .before .before .before .before .before .before .before .before .pre .0
 
 add-i : tie.Need-add-i Inv-loop μ-loop
-add-i c = search needs
+add-i c = let h = c .before .before .before .before .before .before .before .before .before .before .before .before .pre .1 .within in let t = c .before .before .before .before .before .before .before .loop-test .taken in omega arith
 
 loop-less : tie.Need-loop-less Inv-loop μ-loop
 loop-less c = search needs
 
 loop-again : tie.Need-loop-again Inv-loop μ-loop
 unfolding Sends
-loop-again c = (along-more _ _ _ _ _ _ _ (rw (← (c .before .before .before .before .before .before .before .loop .inv .2)) (c .before .before .before .before .before .before .loop-test .taken)) (c .before .before .before .before .before .before .before .loop .inv .0) (binder-runs _ _ _ _ _ _ (c .before .before .before .write-binder .ensures)), search needs, c .before .before .before .before .before .before .before .loop .inv .2)
+loop-again c = (along-offset _ _ _ _ (c .before .before .before .before .before .before .before .before .before .before .before .before .pre .1) _ _ _ _ (c .before .before .before .before .before .before .before .loop-test .taken) (c .before .before .before .before .before .position .ensures) (c .before .before .before .before .before .before .before .before .loop .inv .0) (binder-runs _ _ _ _ _ _ (c .before .before .before .write-binder .ensures)), search needs)
 
 same-length : tie.Need-same-length Inv-loop μ-loop
 same-length c = c .before .loop .inv .1
 
 returns : tie.Need-returns Inv-loop μ-loop
 unfolding Sends
-returns c = along-end _ _ _ _ _ _ (rw (← (c .before .loop .inv .2)) (c .loop-test .left)) (c .before .loop .inv .0)
+returns c = along-done _ _ _ _ (c .before .before .before .before .before .pre .1) _ _ (c .loop-test .left) (c .before .loop .inv .0)
 
 pub write-each-var-spec : {M : Type 1} → statement M
 write-each-var-spec =
@@ -51,8 +56,9 @@ write-each-var-spec =
     Inv-loop
     μ-loop
     loop-holds
-    mul-at
-    shared-slice-read-at
+    mul-position
+    element-copy-out-position
+    position-requires
     write-binder-requires
     add-i
     loop-less

@@ -3,9 +3,6 @@ use borrow.Author.Needs.{needs}
 use Rattle.constraint_check.proofs.binder_fault.Statement.{statement}
 use Rattle.constraint_check.proofs.binder_fault.Tie as tie
 
-shadow-fault-requires : tie.Need-shadow-fault-requires
-shadow-fault-requires c κs = search needs
-
 name-fault-requires : tie.Need-name-fault-requires
 name-fault-requires c κs = search needs
 
@@ -16,9 +13,7 @@ lower-requires-2 : tie.Need-lower-requires-2
 lower-requires-2 c κs = search needs
 
 returns : tie.Need-returns
-returns c = rw (c .lower2 .ensures, c .before .before .name-fault .ensures, c .before .lower .ensures, c .before .before .before .shadow-fault .ensures)
+returns c = rw (c .lower2 .ensures, c .before .before .name-fault .ensures, c .before .lower .ensures)
 
 pub binder-fault-spec : {M : Type 1} → statement M
-binder-fault-spec =
-    tie.close
-    (tie.spec shadow-fault-requires name-fault-requires lower-requires lower-requires-2 returns)
+binder-fault-spec = tie.close (tie.spec name-fault-requires lower-requires lower-requires-2 returns)

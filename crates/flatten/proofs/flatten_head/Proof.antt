@@ -1,46 +1,50 @@
--- `flatten_head`: a head that is literally true is passed over.
-use Rattle.flatten.proofs.Flattening.{head-true, head-other, pred-refused}
+-- `flatten_head`: from what is kept, or from the path.
+use Rattle.assertion.specs.Under.{Counts}
+use Rattle.path.proofs.Entries.{leaves-fewer}
+use native.Mathlib.Omega.{arith}
+use Rattle.flatten.proofs.Flattening.{kept-under, path-passed, path-wanted}
 use borrow.Author.Needs.{needs}
 use Rattle.flatten.proofs.flatten_head.Statement.{statement}
 use Rattle.flatten.proofs.flatten_head.Tie as tie
 
-is-literally-true-requires : tie.Need-is-literally-true-requires
-is-literally-true-requires c κs = search needs
-
-check-pred-requires : tie.Need-check-pred-requires
-check-pred-requires c κs = search needs
-
-enum-known-walked : tie.Need-enum-known-walked
-enum-known-walked c = search needs
-
-enum-told : tie.Need-enum-told
-enum-told c = search needs
-
-returns : tie.Need-returns
-returns c = pred-refused _ _ _ _ (c .before .before .check-pred .ensures) _ _ _ _ _ (c .enum-told .given .1)
-
-returns-2 : tie.Need-returns-2
-returns-2 c = head-true _ _ _ _ _ _ _ (c .before .before .before .check-pred .ensures) _ _ _ (c .before .before .before .before .before .is-literally-true .ensures) (c .before .before .before .before .if1 .taken) (c .before .walked .given .1)
-
-put-assert-requires : tie.Need-put-assert-requires
-put-assert-requires c κs = search needs
+flatten-kept-head-requires : tie.Need-flatten-kept-head-requires
+flatten-kept-head-requires c κs = (c .before .before .before .before .before .before .before .pre .chained, c .before .before .before .before .before .before .before .pre .keeps .fits)
 
 same-length : tie.Need-same-length
 same-length c = search needs
 
+returns : tie.Need-returns
+returns c = kept-under _ _ _ _ _ _ _ _ _ _ (c .before .before .before .before .before .before .before .before .before .before .pre .keeps) (c .before .before .before .before .if1 .taken) (c .before .before .flatten-kept-head .ensures)
+
+is-wanted-requires : tie.Need-is-wanted-requires
+is-wanted-requires c κs = search needs
+
+put-long-assert-requires : tie.Need-put-long-assert-requires
+unfolding Counts
+put-long-assert-requires c κs = ((c .before .before .before .before .before .before .before .before .before .before .pre .chained, leaves-fewer _ _ 0 (omega arith) (c .before .before .before .before .before .before .before .before .before .before .pre .leaves)), c .before .before .before .before .before .before .before .before .before .before .pre .keeps .counted)
+
+same-length-2 : tie.Need-same-length-2
+same-length-2 c = search needs
+
+returns-2 : tie.Need-returns-2
+returns-2 c = path-wanted _ _ (c .before .before .before .before .before .before .before .before .before .before .before .before .before .args .from) _ (c .before .before .before .before .before .is-wanted .ensures) _ _ _ _ _ (c .before .before .before .before .if2 .taken) (c .before .before .put-long-assert .ensures)
+
+pass-head-requires : tie.Need-pass-head-requires
+pass-head-requires c κs = search needs
+
 returns-3 : tie.Need-returns-3
-returns-3 c = head-other _ _ _ _ _ _ _ _ _ (c .before .before .before .before .before .is-literally-true .ensures) (c .before .before .before .before .if1 .left) (c .before .before .put-assert .ensures)
+returns-3 c = path-passed _ _ _ _ (c .before .before .is-wanted .ensures) _ _ _ _ (c .before .if2 .left) (c .pass-head .ensures)
 
 pub flatten-head-spec : {M : Type 1} → statement M
 flatten-head-spec =
     tie.close
     (tie.spec
-    is-literally-true-requires
-    check-pred-requires
-    enum-known-walked
-    enum-told
-    returns
-    returns-2
-    put-assert-requires
+    flatten-kept-head-requires
     same-length
+    returns
+    is-wanted-requires
+    put-long-assert-requires
+    same-length-2
+    returns-2
+    pass-head-requires
     returns-3)

@@ -1,7 +1,7 @@
 -- inspect reads the trailer, walks the items and then the constraint.
 use native.Mathlib.Omega.{arith}
 use lib.ListN.{length-take}
-use Rattle.inspect.proofs.Whole.{inspect-unframed, inspect-inside, inspect-refused, inspect-concludes}
+use Rattle.inspect.proofs.Whole.{inspect-unframed, inspect-inside, inspect-short, inspect-refused, inspect-concludes}
 use borrow.Author.Needs.{needs}
 use Rattle.inspect.proofs.inspect.Statement.{statement}
 use Rattle.inspect.proofs.inspect.Tie as tie
@@ -28,7 +28,7 @@ slice-aggregate-check-constraint : tie.Need-slice-aggregate-check-constraint
 slice-aggregate-check-constraint c = let h = inspect-inside _ _ (c .before .before .before .before .before .before .before .before .read-trailer .ensures) _ (c .before .before .before .before .before .before .trailer .given .1) .end in simp length-take (omega arith)
 
 check-constraint-requires : tie.Need-check-constraint-requires
-check-constraint-requires c κs = search needs
+check-constraint-requires c κs = inspect-short _ _ (c .before .before .before .before .before .before .before .before .read-trailer .ensures) _ (c .before .before .before .before .before .before .trailer .given .1)
 
 conclude-requires : tie.Need-conclude-requires
 conclude-requires c κs = search needs

@@ -11,10 +11,11 @@ use Rattle.output.specs.Emit.{output, emits}
 use Rattle.output.proofs.Sending.{Owes, owes-start, owes-more, owes-end, row-none, row-some}
 use Rattle.smt_sort.specs.Section.{encoderIn}
 use Rattle.smt_expr.specs.Parts.{exprsText, unaryText, binaryText, atomText, naryText}
-use Rattle.smt_expr.proofs.Exprs.{exprs-row, expr-none, expr-arm, expr-leaf, expr-of, pair-of, refused-sends, unary-sends, binary-sends, op-is, rel-is, ne-sends, ite-sends, let-sends, is-ctor-sends, quantifier-sends, as-sends, unqualified-sends, unsorted-sends, no-sort, no-head, no-count, bare-sends, app-sends}
+use Rattle.smt_expr.proofs.Exprs.{exprs-row, expr-none, expr-arm, expr-leaf, expr-of, pair-of, refused-sends, unary-sends, binary-sends, op-is, rel-is, ne-sends, ite-sends, let-sends, is-ctor-sends, quantifier-sends, as-sends, unqualified-sends, unsorted-sends, no-sort, no-head, no-count, bare-sends, app-sends, ends-at}
 use Prim.Native.Nat.{ℕ, _<_}
 use borrow.Fn.Kinds.{In}
 use borrow.Fn.PlainCycle.{Measures, is, falls, and}
+use Rattle.smt_expr.proofs.close_list.Reads as close-list-reads
 use Rattle.smt_expr.proofs.write_app.Reads as write-app
 use Rattle.smt_expr.proofs.write_app.Kinds as write-app-kinds
 use Rattle.smt_expr.proofs.+write_app+write_application_head+write_atom+write_bin_op+write_binary+write_expr+write_exprs+write_is_ctor+write_ite+write_let+write_nary+write_ne+write_quantifier+write_unary.Lts-write_app as write-app-lts
@@ -263,7 +264,7 @@ write-unary-below t =
 
 -- what the calls in it ask and give
 abbrev write-app-calls : ℕ → write-app-lts.Claims
-write-app-calls t = (check-given-reads.Asked, check-given-reads.Learnt, check-expr-reads.Asked, check-expr-reads.Learnt, number-at-reads.Asked, number-at-reads.Learnt, write-application-head-below t, write-application-head.Post, byte-reads.Asked, byte-reads.Learnt, write-exprs-below t, write-exprs.Post)
+write-app-calls t = (check-given-reads.Asked, check-given-reads.Learnt, check-expr-reads.Asked, check-expr-reads.Learnt, number-at-reads.Asked, number-at-reads.Learnt, write-application-head-below t, write-application-head.Post, byte-reads.Asked, byte-reads.Learnt, write-exprs-below t, write-exprs.Post, close-list-reads.Asked, close-list-reads.Learnt)
 
 -- what the calls in it ask and give
 abbrev write-application-head-calls : ℕ → write-application-head-lts.Claims
@@ -303,7 +304,7 @@ write-let-calls t = (bytes-reads.Asked, bytes-reads.Learnt, name-reads.Asked, na
 
 -- what the calls in it ask and give
 abbrev write-nary-calls : ℕ → write-nary-lts.Claims
-write-nary-calls t = (write-word-reads.Asked, write-word-reads.Learnt, byte-reads.Asked, byte-reads.Learnt, bytes-reads.Asked, bytes-reads.Learnt, write-exprs-below t, write-exprs.Post)
+write-nary-calls t = (write-word-reads.Asked, write-word-reads.Learnt, byte-reads.Asked, byte-reads.Learnt, bytes-reads.Asked, bytes-reads.Learnt, write-exprs-below t, write-exprs.Post, close-list-reads.Asked, close-list-reads.Learnt)
 
 -- what the calls in it ask and give
 abbrev write-ne-calls : ℕ → write-ne-lts.Claims
@@ -333,7 +334,7 @@ write-app-write-exprs-requires : (t : ℕ) → write-app-lts.Need-write-exprs-re
 write-app-write-exprs-requires t c κs = let far = c .before .before .before .before .before .before .before .before .before .before .before .before .before .before .before .before .before .before .before .before .before .before .before .before .before .before .pre in search needs
 
 write-app-returns-5 : (t : ℕ) → write-app-lts.Need-returns-5 (write-app-calls t) (write-app-at t) write-app.Post
-write-app-returns-5 t c = app-sends _ _ _ _ _ _ _ (c .before .before .before .before .before .before .before .before .before .before .before .before .before .before .before .before .before .before .before .before .before .before .before .before .before .before .before .before .before .before .check-given .ensures) _ _ _ (c .before .before .before .before .before .before .before .before .before .before .before .before .before .before .before .before .before .before .before .before .before .before .before .before .before .before .before .before .sort .given .1) (c .before .before .before .before .before .before .before .before .before .before .before .before .before .before .before .before .before .before .before .before .before .before .before .before .before .before .check-expr .ensures) _ _ _ (c .before .before .before .before .before .before .before .before .before .before .before .before .before .before .before .before .before .before .before .before .before .before .before .before .skipped .given .1) (c .before .before .before .before .before .before .before .before .before .before .before .before .before .before .before .before .before .before .before .before .before .before .number-at .ensures) _ _ (c .before .before .before .before .before .before .before .before .before .before .before .before .before .before .before .before .before .before .before .before .count .given .1) _ _ _ _ _ _ (c .before .before .before .before .before .before .before .before .before .before .before .before .before .before .before .before .before .before .if1 .left) (c .before .before .before .before .before .before .before .before .before .before .before .before .before .before .before .before .byte .ensures) (c .before .before .before .before .before .before .before .before .before .before .before .before .write-application-head2 .ensures) (c .before .before .before .before .before .before .before .write-exprs .ensures) (c .before .before .byte2 .ensures)
+write-app-returns-5 t c = ends-at _ _ _ _ _ _ (c .before .before .close-list .ensures .0) (app-sends _ _ _ _ _ _ _ (c .before .before .before .before .before .before .before .before .before .before .before .before .before .before .before .before .before .before .before .before .before .before .before .before .before .before .before .before .before .check-given .ensures) _ _ _ (c .before .before .before .before .before .before .before .before .before .before .before .before .before .before .before .before .before .before .before .before .before .before .before .before .before .before .before .sort .given .1) (c .before .before .before .before .before .before .before .before .before .before .before .before .before .before .before .before .before .before .before .before .before .before .before .before .before .check-expr .ensures) _ _ _ (c .before .before .before .before .before .before .before .before .before .before .before .before .before .before .before .before .before .before .before .before .before .before .before .skipped .given .1) (c .before .before .before .before .before .before .before .before .before .before .before .before .before .before .before .before .before .before .before .before .before .number-at .ensures) _ _ (c .before .before .before .before .before .before .before .before .before .before .before .before .before .before .before .before .before .before .before .count .given .1) _ _ _ _ _ _ (c .before .before .before .before .before .before .before .before .before .before .before .before .before .before .before .before .before .if1 .left) (c .before .before .before .before .before .before .before .before .before .before .before .before .before .before .before .byte .ensures) (c .before .before .before .before .before .before .before .before .before .before .before .write-application-head2 .ensures) (c .before .before .before .before .before .before .write-exprs .ensures) (c .before .before .close-list .ensures .1))
 
 write-application-head-returns : (t : ℕ) → write-application-head-lts.Need-returns (write-application-head-calls t) (write-application-head-at t) write-application-head.Post
 write-application-head-returns t c = as-sends _ _ _ _ _ _ _ _ _ _ _ _ _ _ _ (c .before .before .before .before .before .before .before .before .before .before .before .before .before .before .before .before .before .before .before .before .before .before .before .before .before .if1 .taken) (c .before .before .before .before .before .before .before .before .before .before .before .before .before .before .before .before .before .before .before .before .before .before .before .before .is-qualified .ensures) (c .before .before .before .before .before .before .before .before .before .before .before .before .before .before .before .before .before .before .before .before .before .before .before .if2 .taken) (c .before .before .before .before .before .before .before .before .before .before .before .before .before .before .before .before .before .before .before .before .bytes .ensures) (c .before .before .before .before .before .before .before .before .before .before .before .before .before .before .before .before .write-expr .ensures) (c .before .before .before .before .before .before .before .before .before .before .before .byte .ensures) (c .before .before .before .before .before .before .before .write-sort .ensures) (c .before .before .byte2 .ensures)
@@ -521,11 +522,11 @@ write-let-returns t c = let-sends _ _ _ _ _ _ _ _ _ _ _ _ _ _ _ (c .before .befo
 
 write-nary-returns : (t : ℕ) → write-nary-lts.Need-returns (write-nary-calls t) (write-nary-at t) write-nary.Post
 unfolding naryText
-write-nary-returns t c = row-none (exprs-row _) (decExpr (c .before .before .before .before .before .before .before .before .before .before .args .levels)) (c .before .before .before .before .before .before .before .before .before .before .args .s .now) (λ ws. write-nary (c .before .before .before .before .before .before .before .before .before .before .args .op .now) ws (c .before .before .before .before .before .before .before .before .before .before .args .empty .now)) (c .before .before .before .before .before .before .before .before .before .before .args .n) (c .before .before .before .before .before .before .before .before .before .before .args .at) _ _ _ (c .before .before .before .before .if1 .taken) (c .before .before .write-word .ensures)
+write-nary-returns t c = row-none (exprs-row _) (decExpr (c .before .before .before .before .before .before .before .before .before .before .before .args .levels)) (c .before .before .before .before .before .before .before .before .before .before .before .args .s .now) (λ ws. write-nary (c .before .before .before .before .before .before .before .before .before .before .before .args .op .now) ws (c .before .before .before .before .before .before .before .before .before .before .before .args .empty .now)) (c .before .before .before .before .before .before .before .before .before .before .before .args .n) (c .before .before .before .before .before .before .before .before .before .before .before .args .from .at) _ _ _ (c .before .before .before .before .if1 .taken) (c .before .before .write-word .ensures)
 
 write-nary-returns-2 : (t : ℕ) → write-nary-lts.Need-returns-2 (write-nary-calls t) (write-nary-at t) write-nary.Post
 unfolding naryText exprsText
-write-nary-returns-2 t c = row-some (exprs-row _) (decExpr (c .before .before .before .before .before .before .before .before .before .before .before .before .before .before .before .before .before .before .before .before .before .before .before .args .levels)) (c .before .before .before .before .before .before .before .before .before .before .before .before .before .before .before .before .before .before .before .before .before .before .before .args .s .now) (λ ws. write-nary (c .before .before .before .before .before .before .before .before .before .before .before .before .before .before .before .before .before .before .before .before .before .before .before .args .op .now) ws (c .before .before .before .before .before .before .before .before .before .before .before .before .before .before .before .before .before .before .before .before .before .before .before .args .empty .now)) (c .before .before .before .before .before .before .before .before .before .before .before .before .before .before .before .before .before .before .before .before .before .before .before .args .n) (c .before .before .before .before .before .before .before .before .before .before .before .before .before .before .before .before .before .before .before .before .before .before .before .args .at) _ _ _ _ _ _ _ (λ w ws. refl) (c .before .before .before .before .before .before .before .before .before .before .before .before .before .before .before .before .before .if1 .left) (c .before .before .before .before .before .before .before .before .before .before .before .before .before .before .before .byte .ensures) (c .before .before .before .before .before .before .before .before .before .before .before .bytes .ensures) (c .before .before .before .before .before .before .before .write-exprs .ensures) (c .before .before .byte2 .ensures)
+write-nary-returns-2 t c = ends-at _ _ _ _ _ _ (c .before .before .close-list .ensures .0) (row-some (exprs-row _) (decExpr (c .before .before .before .before .before .before .before .before .before .before .before .before .before .before .before .before .before .before .before .before .before .before .before .args .levels)) (c .before .before .before .before .before .before .before .before .before .before .before .before .before .before .before .before .before .before .before .before .before .before .before .args .s .now) (λ ws. write-nary (c .before .before .before .before .before .before .before .before .before .before .before .before .before .before .before .before .before .before .before .before .before .before .before .args .op .now) ws (c .before .before .before .before .before .before .before .before .before .before .before .before .before .before .before .before .before .before .before .before .before .before .before .args .empty .now)) (c .before .before .before .before .before .before .before .before .before .before .before .before .before .before .before .before .before .before .before .before .before .before .before .args .n) (c .before .before .before .before .before .before .before .before .before .before .before .before .before .before .before .before .before .before .before .before .before .before .before .args .from .at) _ _ _ _ _ _ _ (λ w ws. refl) (c .before .before .before .before .before .before .before .before .before .before .before .before .before .before .before .before .if1 .left) (c .before .before .before .before .before .before .before .before .before .before .before .before .before .before .byte .ensures) (c .before .before .before .before .before .before .before .before .before .before .bytes .ensures) (c .before .before .before .before .before .before .write-exprs .ensures) (c .before .before .close-list .ensures .1))
 
 write-ne-returns : (t : ℕ) → write-ne-lts.Need-returns (write-ne-calls t) (write-ne-at t) write-ne.Post
 write-ne-returns t c = ne-sends _ _ _ _ _ _ _ _ _ (c .before .before .before .before .before .before .before .before .before .before .before .before .bytes .ensures) (c .before .before .before .before .before .before .before .write-binary .ensures) (c .before .before .byte .ensures)
