@@ -4,7 +4,7 @@
  *   - `file` points to `file_len` bytes that can be read, and `buf` to `buf_len` bytes that can be written. Neither is NULL, even
  *     where the length is 0. `sizes` points to four values, `length` to one, aligned.
  *   - `buf` shares no byte with `file`, and `sizes` and `length` share none with either.
- *   - The thread has 1.5 MB of stack left, which the deepest task needs (254 ForAlls inside each other); there is no heap.
+ *   - The thread has 600 KB of stack left, which the deepest tasks need (256 levels of ForAlls or Conjs); there is no heap.
  * The archive is for x86-64 Linux. The bytes, the index and the lengths are free: there is nothing to test before a call. An uninitialised buffer is fine.
  *
  * A call answers 0 and stores its values, or it answers the number of its refusal, stores nothing and changes no byte of `buf`.

@@ -1,7 +1,7 @@
 //! A checking task of Flux to an SMT-LIB 2.6 script for a Horn solver, or to one numbered refusal.
 //!
 //! The three calls take any bytes, any index and a buffer of any length, and there is nothing to test before a call. A refusal is its number
-//! and changes no byte of the buffer; a success is its values, and the bytes behind the written text are unchanged. A call needs up to 1.5 MB
+//! and changes no byte of the buffer; a success is its values, and the bytes behind the written text are unchanged. A call needs up to 600 KB
 //! of stack, which Rust's threads have, and no heap.
 //!
 //! ```

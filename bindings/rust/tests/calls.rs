@@ -93,20 +93,25 @@ fn a_quotation_mark_in_a_string_is_written_twice() {
     assert_eq!(number(survey(&file)), Some(4));
 }
 
-/// 254 ForAlls inside each other, the most that there may be: a test's thread has 2 MB of stack.
+/// 254 ForAlls inside each other, the most that there may be, and 254 Conjs: a thread of 640 KB has the stack that is promised to be enough.
 #[test]
-fn the_deepest_task_fits_a_thread() {
-    let mut file = Vec::new();
-    for i in 0..254 {
+fn the_deepest_tasks_fit_a_small_thread() {
+    let for_all = |i: usize| {
         let name = format!("x{i}");
-        file.extend([2, name.len() as u8]);
-        file.extend(name.as_bytes());
-        file.extend([0, 0, 0]);
+        [&[2, name.len() as u8], name.as_bytes(), &[0, 0, 0]].concat()
+    };
+    let conj = |_: usize| vec![1, 1, 0];
+    for piece in [&for_all as &dyn Fn(usize) -> Vec<u8>, &conj] {
+        let mut file: Vec<u8> = (0..254).flat_map(piece).collect();
+        file.extend([0, 0, 1, b'k', 0, 0]);
+        file.extend([0; 24]);
+        file.extend(b"HORN");
+        let walked = move || {
+            let sizes = survey(&file).unwrap();
+            assert_eq!((sizes.parts, sizes.assertions), (4, 1));
+            assert_eq!(script(&file, &mut vec![0; sizes.bytes]), Ok(sizes.bytes));
+            assert_eq!(part(&file, 2, &mut vec![0; sizes.longest]), Ok(sizes.longest));
+        };
+        std::thread::Builder::new().stack_size(640 << 10).spawn(walked).unwrap().join().unwrap();
     }
-    file.extend([0, 0, 1, b'k', 0, 0]);
-    file.extend([0; 24]);
-    file.extend(b"HORN");
-    let sizes = survey(&file).unwrap();
-    assert_eq!((sizes.parts, sizes.assertions), (4, 1));
-    assert_eq!(script(&file, &mut vec![0; sizes.bytes]), Ok(sizes.bytes));
 }

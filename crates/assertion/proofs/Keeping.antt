@@ -171,20 +171,20 @@ set-is true e = refl
 set-is false e = clash (cc)
 
 -- of the path without ForAlls
-pub keeps-start : (s enc text : List ℕ) (m : ℕ) (k : code.Kept) → (k .vars ≡ 0) × (k .middle ≡ m) × (k .guards ≡ m) × (k .count ≡ 0)
+pub keeps-start : (s enc text : List ℕ) (m : ℕ) (k : code.Kept) → (k .has ≡ true) × (k .vars ≡ 0) × (k .middle ≡ m) × (k .guards ≡ m) × (k .count ≡ 0)
     → length text ≤ room → m ≤ length text → Keeps s enc [] text k
 unfolding onPath varsText guardsText countAll
 keeps-start s enc text m k e h g =
-    let e0 = e .0 in
-    let e1 = e .1 in
-    let e2 = e .2 in
+    let e0 = e .1 in
+    let e1 = e .2 in
+    let e2 = e .3 in
     let z : k .guards - k .middle ≡ 0 = omega arith in
     record {
       fits = record { short = h; inside-vars = omega arith; inside-guards = omega arith; inside = omega arith };
-      counted = λ fs q y. let f : [] ≡ fs = cc in rw (← f) (e .3);
+      counted = λ fs q y. let f : [] ≡ fs = cc in rw (← f) (e .4);
       holds = λ t fs q y.
           let f : [] ≡ fs = cc in
-          rw (← f) (record { vars-are = rw e0; guards-are = rw z; count-is = e .3 });
+          rw (← f) (record { vars-are = rw e0; guards-are = rw z; count-is = e .4 });
     }
 
 -- nothing moved

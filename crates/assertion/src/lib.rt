@@ -6,7 +6,7 @@ use path::Path;
 use smt_word::Sent;
 use task::Number;
 use task_check::Walked;
-ghost use mathlib.Core.Bool.{false};
+ghost use mathlib.Core.Bool.{true, false};
 ghost use mathlib.Core.Path.{_≡_};
 ghost use mathlib.Core.List.{[], _∷_, _++_};
 ghost use Prim.Native.Nat.{_+_, min};
@@ -211,7 +211,7 @@ fn count_own_guards(s: &[u8], at: usize, have: u64) -> u64
 impl Kept {
     // Of the path without ForAlls; the guards of a longer one will stand from the middle on.
     pub fn start(middle: usize) -> Kept
-        ensures { λ r. ⌜ (r .vars ≡ 0) × (r .middle ≡ middle) × (r .guards ≡ middle) × (r .count ≡ 0) ⌝ }
+        ensures { λ r. ⌜ (r .has ≡ true) × (r .vars ≡ 0) × (r .middle ≡ middle) × (r .guards ≡ middle) × (r .count ≡ 0) ⌝ }
     {
         Kept {
             has: true,

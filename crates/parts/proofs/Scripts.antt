@@ -1,5 +1,6 @@
 -- What the parts of a file add up to: its declarations, its assertions, its script.
 use mathlib.Core.Path.{_≡_, sym, ap, _∙_, subst}
+use mathlib.Core.Bool.{true}
 use mathlib.Core.List.{List, [], _∷_, _++_}
 use Prim.Native.Nat.{ℕ, _/_, _≤_}
 use native.Mathlib.Omega.{arith}
@@ -71,7 +72,7 @@ declarations-put file enc b r w w1 w2 w3 w4 u1 u2 u3 u4 us q e =
 
 -- the walk may begin without ForAlls around it
 pub ready-start : (file enc text : List ℕ) (p : Path) (k : Kept) → length file ≤ 60000 → Chained file enc → (offsetsOn p ≡ []) × (p .depth ≡ 0) × (length (p .offsets) ≡ 256)
-    → (k .vars ≡ 0) × (k .middle ≡ length text / 2) × (k .guards ≡ length text / 2) × (k .count ≡ 0) → length text ≤ 32768
+    → (k .has ≡ true) × (k .vars ≡ 0) × (k .middle ≡ length text / 2) × (k .guards ≡ length text / 2) × (k .count ≡ 0) → length text ≤ 32768
     → Ready file enc text (record { path = p; kept = k }) deepest
 ready-start file enc text p k f h e g l = record {
   short = omega arith;
