@@ -85,6 +85,7 @@ negation-text o ws x =
     ap (λ (z : List ℕ). emits o (32 ∷ 40 ∷ (bytes "and" ++ z) ++ 41 ∷ [])) (spaced-append ws (write-unary (bytes "not") x ∷ []))
     ∙ simp emits-append
 
+-- false from something
 implied-false : (o : Output) (w : List ℕ) → emits o (write-binary (bytes "=>") w (bytes "false")) ≡ emits (emits (emits o (bytes "(=>")) (32 ∷ w)) (bytes " false)")
 unfolding emits
 implied-false o w = simp emits-append
