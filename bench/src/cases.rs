@@ -4,7 +4,7 @@ use oracle::chance::{Chance, SEED};
 use oracle::draft::{Draft, Plan, Spot};
 use oracle::faults::any_kind;
 use oracle::limits::nested;
-use oracle::task::{accepted, LONGEST_FILE};
+use oracle::task::{accepted, is_symbol, LONGEST_FILE};
 use oracle::words::{bytes, packed, USUAL};
 use std::iter::repeat_with;
 
@@ -14,7 +14,7 @@ pub const WHOLE: usize = 4;
 /// A case: its name, whether its growth is measured, and its files at so many quarters of its size.
 pub type Case = (&'static str, bool, fn(usize) -> Vec<Vec<u8>>);
 
-pub const CASES: [Case; 14] = [
+pub const CASES: [Case; 15] = [
     ("deep", true, |quarters| vec![deep(quarters)]),
     ("wide", true, |quarters| vec![packed(&format!("h: {}", heads(share(WIDE_HEADS, quarters))))]),
     ("wide-kvars", false, |quarters| vec![filled(quarters, "v: 'k0 #1 0 h: 2 'x 0 #2 P P 1 #@", || "0 0 'k0 #1 5 'x".to_string())]),
@@ -22,6 +22,7 @@ pub const CASES: [Case; 14] = [
     ("datatypes", true, |quarters| vec![datatypes(quarters, &numbered(share(MANY_DATATYPES, quarters)))]),
     ("datatypes-few", false, |quarters| vec![datatypes(quarters, &numbered(FEW_DATATYPES))]),
     ("one-bucket", true, |quarters| vec![datatypes(quarters, &in_one_bucket(share(MANY_DATATYPES, quarters)))]),
+    ("binders", true, |quarters| vec![binders(share(BINDERS, quarters))]),
     ("applications", true, |quarters| vec![applications(share(APPS, quarters), share(VARIABLES, quarters))]),
     ("names", true, |quarters| vec![filled(quarters, "h: 0 1 13 #@", || "17 0 5 'merge #2 5 'left 5 'right".to_string())]),
     ("numerals", false, |quarters| vec![numerals(quarters)]),
@@ -37,6 +38,7 @@ const WIDE_HEADS: usize = 14_000;
 const MANY_DATATYPES: usize = 1500;
 const FEW_DATATYPES: usize = 20;
 const SORTS_OF_A_KVAR: usize = 4;
+const BINDERS: usize = 4000;
 const APPS: usize = 240;
 const VARIABLES: usize = 9000;
 const STRING_BYTES: usize = 1000;
@@ -108,6 +110,16 @@ fn datatypes(quarters: usize, names: &Names) -> Vec<u8> {
         let sorts: String = (0..SORTS_OF_A_KVAR).map(|_| format!("11 '{} #0 ", names[chance.below(names.len())].0)).collect();
         format!("'k #{SORTS_OF_A_KVAR} {sorts}")
     })
+}
+
+/// So many constants, and in a Conj as many ForAlls without predicates over an empty Conj. Names have 2 bytes; there are 1,450 that no
+/// constant has, and the ForAlls have them in turns.
+fn binders(many: usize) -> Vec<u8> {
+    let pairs = (b'!'..=b'~').flat_map(|first| (b'!'..=b'~').map(move |second| [first, second]));
+    let names: Vec<String> = pairs.filter(|name| is_symbol(name)).map(|name| name.iter().map(|byte| *byte as char).collect()).collect();
+    let constants: String = names[..many].iter().map(|name| format!("'{name} 0 ")).collect();
+    let for_alls: String = names[BINDERS..].iter().cycle().take(many).map(|name| format!("2 '{name} 0 #0 C ")).collect();
+    packed(&format!("k: {constants} h: 1 #{many} {for_alls}"))
 }
 
 /// So many Apps of one argument, each the head of the one around it, and in the innermost an And of so many variables as the head.

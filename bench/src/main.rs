@@ -2,7 +2,8 @@
 //!
 //!     bench/run [SECONDS]
 //!
-//! Two tables are printed, the second with the time for each byte of file and script at a quarter, a half and the whole of a case's size.
+//! Two tables are printed, the second with the time for each byte of file and script at a quarter, a half and the whole of a case's size, how
+//! it grows from a quarter to the whole, and how that of survey grows from a half.
 //! What is measured takes turns, round after round for so many seconds a case, and the shortest time of each counts, so other work of the
 //! machine falls on all alike.
 mod cases;
@@ -108,9 +109,9 @@ fn compared((name, _, files): &Case, at_least: f64) -> Vec<String> {
 /// The row of a case among the growths, in nanoseconds for a byte.
 fn grown((name, _, files): &Case, at_least: f64) -> Vec<String> {
     let mut subjects: Vec<Subject> = [1, 2, WHOLE].into_iter().flat_map(files).map(Subject::new).collect();
-    let times = shortest(&mut subjects, [Script, Rendering], at_least);
+    let times = shortest(&mut subjects, [Script, Rendering, Survey], at_least);
     let for_a_byte = |i: usize, at: usize| times[at][i] * 1e9 / subjects[at].bytes() as f64;
-    let growths = [0, 1].map(|i| figure(for_a_byte(i, 2) / for_a_byte(i, 0)));
+    let growths = [(0, 0), (1, 0), (2, 1)].map(|(i, from)| figure(for_a_byte(i, 2) / for_a_byte(i, from)));
     let sizes = subjects.iter().map(|subject| subject.bytes().to_string());
     [name.to_string()].into_iter().chain(sizes).chain([0, 1, 2].map(|at| figure(for_a_byte(0, at)))).chain(growths).collect()
 }
@@ -136,6 +137,8 @@ fn main() {
     ];
     print(&titles, CASES.iter().map(|case| compared(case, at_least)));
     println!("~: of a script with more than {MANY_PARTS} parts {SAMPLED} were measured, spread evenly, and the time scaled up\n");
-    let titles = ["case", "bytes at 1/4", "at 1/2", "whole", "ns a byte at 1/4", "at 1/2", "whole", "growth", "growth of rendering"];
+    let titles = [
+        "case", "bytes at 1/4", "at 1/2", "whole", "ns a byte at 1/4", "at 1/2", "whole", "growth", "growth of rendering", "survey from 1/2",
+    ];
     print(&titles, CASES.iter().filter(|case| case.1).map(|case| grown(case, at_least)));
 }

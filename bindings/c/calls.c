@@ -101,6 +101,23 @@ static void forms(void) {
     refused_with(14, weak, sizeof weak);
 }
 
+/* the constant lim; ForAll x with the predicate x < lim, over ForAll lim over the head lim >= x; and with that ForAll named lin */
+static void declared(void) {
+    static const uint8_t sections[] = {3, 'l', 'i', 'm', 0, 2, 1, 'x', 0, 1, 0, 1, 10, 4, 5, 1, 'x', 5, 3, 'l', 'i', 'm',
+        2, 3, 'l', 'i', 'm', 0, 0, 0, 0, 1, 10, 3, 5, 3, 'l', 'i', 'm', 5, 1, 'x'};
+    enum { N = sizeof sections + 28 };
+    uint8_t file[N] = {0}, buf[1] = {FILLED};
+    size_t sizes[4], length;
+    memcpy(file, sections, sizeof sections);
+    file[N - 16] = file[N - 12] = file[N - 8] = 5;
+    memcpy(file + N - 4, "HORN", 4);
+    expect(jiggerreef_survey(file, N, sizes) == 15, "survey refuses a ForAll named like a constant with 15");
+    expect(jiggerreef_part(file, N, 0, buf, 1, &length) == 15, "so does part");
+    expect(jiggerreef_script(file, N, buf, 1, &length) == 15 && buf[0] == FILLED, "so does script, and changes nothing");
+    file[26] = 'n';
+    expect(jiggerreef_survey(file, N, sizes) == 0 && sizes[1] == 1, "under another name it is accepted");
+}
+
 /* a head that is a string of one quotation mark */
 static void quoted(void) {
     static const uint8_t constraint[] = {0, 1, 3, 1, 0, '"'}, assertion[] = "(assert (=> (not \"\"\"\") false))\n";
@@ -123,6 +140,7 @@ int main(int argc, char **argv) {
     written(file, n, script, m);
     refused();
     forms();
+    declared();
     quoted();
     printf("%d passed, %d failed\n", passed, failed);
     return failed != 0;

@@ -18,6 +18,7 @@
  *   14      a WKVar
  *   6       a body with another number of arguments than inputs
  *   7       a ForAll named like one around it
+ *   15      a ForAll named like a constant, function, constructor, field or KVar
  *   8       no such part
  *   9       the buffer is too short
  * They stand here in the order of judging, where 2 and 3 share a place: the first met. All but 8 and 9 are survey's, and every call's.

@@ -4,26 +4,34 @@ use crate::task::{is_symbol, DEEPEST, LONGEST_FILE, MAP_DEFAULT, SET_EMPTY, SIGN
 use crate::words::joined;
 use std::ops::Range;
 
-/// Kinds of pieces and their forms: `c` `d` `k` `f` `v` items of the sections, `K` a constructor, `B` a name and its sort, `S` a sort,
-/// `E` an expression, `P` a predicate, `C` a constraint. A kind in a form is a piece one level deeper, with `*` a counted list of them.
-/// Numbers are bytes; `%5` is a byte below 5, `!1` a flag; `Q` `U` `V` `v` are numbers of 16, 4, 2 and 2 bytes, the last a small one; `T`
-/// and `t` are a string and a comment; `N` `O` `D` `R` `A` names: any, of a datatype item, of some datatype, of a constructor, of a ForAll;
-/// `F` is a theory function; `i` and `a` are a counted list of inputs and as many argument names. Four letters are pieces that stand only
-/// there: `w` a width, `h` the head of an App with an output sort, `n` such a head that is a name, `y` a Boolean that is true.
-const FORMS: [(char, &[&str]); 11] = [
+/// Kinds of pieces and their forms: `c` `d` `k` `f` `v` items of the sections, `K` a constructor, `M` a field, `B` a Quantifier's name and
+/// its sort, `S` a sort, `E` an expression, `P` a predicate, `C` a constraint. A kind in a form is a piece one level deeper, with `*` a
+/// counted list of them. Numbers are bytes; `%5` is a byte below 5, `!1` a flag; `Q` `U` `V` `v` are numbers of 16, 4, 2 and 2 bytes, the
+/// last a small one; `T` and `t` are a string and a comment; `N` `D` `A` names: any, of some datatype, of a ForAll; DECLARED and HARMLESS
+/// have other letters of names; `F` is a theory function; `i` and `a` are a counted list of inputs and as many argument names. Four letters
+/// are pieces that stand only there: `w` a width, `h` the head of an App with an output sort, `n` such a head that is a name, `y` a Boolean
+/// that is true.
+const FORMS: [(char, &[&str]); 12] = [
     ('c', &["t"]),
     ('d', &["O v K*"]),
-    ('k', &["N S"]),
-    ('f', &["N V S* S !0", "N V i S !1 a E"]),
-    ('v', &["N S*"]),
-    ('K', &["R B*"]),
-    ('B', &["N S"]),
+    ('k', &["X S"]),
+    ('f', &["Y V S* S !0", "Y V i S !1 a E"]),
+    ('v', &["Z S*"]),
+    ('K', &["R M*"]),
+    ('M', &["I S"]),
+    ('B', &["J S"]),
     ('S', &["0", "1", "2", "3", "4 w", "6 V", "7 S S", "8 V S", "9 S*", "10 S*", "11 D S*", "11 D S*"]),
     ('E', &["0 Q", "1 %2", "2 U", "3 T", "4 Q U", "5 N", "7 E", "8 E", "9 %5 E E", "10 %6 E E", "11 E E", "12 E E", "13 E*", "14 E*",
-        "15 E E E", "16 N E E", "17 !0 E E*", "17 !1 S h E*", "17 !1 S n E*", "18 F", "19 N E", "20 %2 B* E"]),
+        "15 E E E", "16 L E E", "17 !0 E E*", "17 !1 S h E*", "17 !1 S n E*", "18 F", "19 N E", "20 %2 B* E"]),
     ('P', &["0 N E*", "1 E", "1 y"]),
     ('C', &["0 P", "1 C*", "1 C*", "2 A S P* C", "2 A S P* C"]),
 ];
+
+/// The letters of names that no ForAll may have: of a constructor, a field, a constant, a function, a KVar.
+pub const DECLARED: [char; 5] = ['R', 'I', 'X', 'Y', 'Z'];
+
+/// The letters of names that stand at declarations or binders, and that a ForAll may have: of a datatype, an argument, a Let, a Quantifier.
+pub const HARMLESS: [char; 4] = ['O', 'G', 'L', 'J'];
 
 /// Names beside those made by chance: words of the script, and neighbours of reserved words.
 const NAMES: [&str; 24] = [
@@ -34,9 +42,10 @@ const NAMES: [&str; 24] = [
 /// An item or a predicate mostly has up to so many pieces.
 const FEW: usize = 16;
 
-/// What stands at a place. A `Head` is that of an App with an output sort. A `Binder` is a ForAll's name, with the name of one around it.
+/// What stands at a place. A `Head` is that of an App with an output sort. A `Name` has its letter. A `Binder` is a ForAll's name, with the
+/// number of the place of the name of one around it.
 #[derive(Clone, PartialEq)]
-pub enum Spot { Item, Piece(char), Head, Width, Name, Binder(Option<String>), Choice(u8), String, Comment, Ctors, Args }
+pub enum Spot { Item, Piece(char), Head, Width, Name(char), Binder(Option<usize>), Choice(u8), String, Comment, Ctors, Args }
 
 pub struct Place { pub spot: Spot, pub section: usize, pub span: Range<usize>, pub level: usize }
 
@@ -59,14 +68,18 @@ impl Draft {
     }
 
     pub fn file(&self) -> Vec<u8> { joined(&self.sections) }
+
+    /// What stands at a place; at that of a name its length and the name.
+    pub fn at(&self, place: &Place) -> &[u8] { &self.sections[place.section][place.span.clone()] }
 }
 
 /// `section` is the one that is being made, `left` the number of pieces still to be made. `names` are those in use, `ctors` those of
-/// constructors; `datatypes` are those of the whole file, `own` is that of the item being made; `around` are the names of the ForAlls
-/// around. `inputs` is the number of a function's, `chain` a kind and the form that is to stand around itself.
+/// constructors, `declared` and `harmless` those with such a letter; `datatypes` are those of the whole file, `own` is that of the item being
+/// made; `around` are the numbers of the places of the names of the ForAlls around. `inputs` is the number of a function's, `chain` a kind and
+/// the form that is to stand around itself.
 struct Maker<'c> {
-    chance: &'c mut Chance, draft: Draft, section: usize, left: usize, names: Vec<String>, ctors: Vec<String>, datatypes: Vec<String>,
-    own: String, around: Vec<String>, inputs: usize, chain: Option<(char, &'static str)>,
+    chance: &'c mut Chance, draft: Draft, section: usize, left: usize, names: Vec<String>, ctors: Vec<String>, declared: Vec<String>,
+    harmless: Vec<String>, datatypes: Vec<String>, own: String, around: Vec<usize>, inputs: usize, chain: Option<(char, &'static str)>,
 }
 
 /// A word of a form that a piece goes on by: the form, the place in it, and the word.
@@ -82,7 +95,7 @@ fn ways(kind: char) -> impl Iterator<Item = Way> {
 /// The kind of the pieces that a word makes below, if it makes any.
 fn kind_below(word: &str) -> Option<char> {
     match word.chars().next()? {
-        'K' | 'B' | 'w' | 'i' => Some('S'),
+        'K' | 'M' | 'B' | 'w' | 'i' => Some('S'),
         'h' | 'n' | 'y' => Some('E'),
         kind @ ('S' | 'E' | 'P' | 'C') => Some(kind),
         _ => None,
@@ -109,7 +122,8 @@ impl<'c> Maker<'c> {
         let chain = if plan.chain { Some(chain(chance)) } else { None };
         let mut maker = Maker {
             chance, chain, draft: Draft { sections: vec![Vec::new(); 6], places: Vec::new() }, section: 0, left: plan.pieces, inputs: 0,
-            names: Vec::new(), ctors: Vec::new(), datatypes: Vec::new(), own: String::new(), around: Vec::new(),
+            names: Vec::new(), ctors: Vec::new(), declared: Vec::new(), harmless: Vec::new(), datatypes: Vec::new(), own: String::new(),
+            around: Vec::new(),
         };
         // The section with the target in it
         let deep = [1, 2, 3, 3, 4, 5, 5, 5][maker.chance.below(8)];
@@ -180,7 +194,7 @@ impl<'c> Maker<'c> {
         self.left += others;
         match kind {
             'S' | 'E' | 'P' | 'C' => self.mark(Spot::Piece(kind), start, level),
-            'B' | 'K' => {}
+            'B' | 'K' | 'M' => {}
             _ => self.mark(Spot::Item, start, level),
         }
         if form.contains('A') {
@@ -206,7 +220,8 @@ impl<'c> Maker<'c> {
             }
             b'T' => self.text(Spot::String),
             b't' => self.text(Spot::Comment),
-            letter @ (b'N' | b'O' | b'D' | b'R' | b'A') => self.named(letter as char),
+            letter @ (b'N' | b'D' | b'A') => self.named(letter as char),
+            letter if DECLARED.contains(&(letter as char)) || HARMLESS.contains(&(letter as char)) => self.named(letter as char),
             b'F' => self.function(),
             b'a' => self.arguments(),
             b'w' | b'h' | b'n' | b'y' => self.only_there(word, level + 1, target),
@@ -224,7 +239,7 @@ impl<'c> Maker<'c> {
         let carrier = self.chance.below(many.max(1));
         self.put(&(many as u16).to_le_bytes());
         for i in 0..many {
-            self.piece(kind, level + !"KB".contains(kind) as usize, if i == carrier { target } else { 0 });
+            self.piece(kind, level + !"KMB".contains(kind) as usize, if i == carrier { target } else { 0 });
         }
         if kind == 'K' {
             self.mark(Spot::Ctors, start, level);
@@ -316,27 +331,44 @@ impl<'c> Maker<'c> {
             'D' if self.chance.below(3) > 0 => name = one_of(self.chance, &self.datatypes).unwrap_or(name),
             'n' if self.chance.below(4) > 0 => name = one_of(self.chance, &self.ctors).unwrap_or(name),
             'R' => self.ctors.push(name.clone()),
-            'A' => while self.around.contains(&name) { name = symbol(self.chance) },
+            'A' => name = self.binder(name),
             _ => {}
         }
         self.put(&named(name.as_bytes()));
-        let outer = if letter == 'A' { Spot::Binder(one_of(self.chance, &self.around)) } else { Spot::Name };
-        self.mark(outer, start, 0);
-        if letter == 'A' {
-            self.around.push(name);
+        let spot = if letter == 'A' { Spot::Binder(one_of(self.chance, &self.around)) } else { Spot::Name(letter) };
+        self.mark(spot, start, 0);
+        match letter {
+            'A' => self.around.push(self.draft.places.len() - 1),
+            _ if DECLARED.contains(&letter) => self.declared.push(name),
+            _ if HARMLESS.contains(&letter) => self.harmless.push(name),
+            _ => {}
         }
+    }
+
+    /// A ForAll's name: this one or a harmless one, but none that is declared and none of those around.
+    fn binder(&mut self, name: String) -> String {
+        let mut name = if self.chance.below(4) == 0 { one_of(self.chance, &self.harmless).unwrap_or(name) } else { name };
+        while self.declared.contains(&name) || self.is_around(&name) {
+            name = symbol(self.chance);
+        }
+        name
+    }
+
+    fn is_around(&self, name: &str) -> bool {
+        let coded = named(name.as_bytes());
+        self.around.iter().any(|number| self.draft.at(&self.draft.places[*number]) == coded)
     }
 
     fn arguments(&mut self) {
         let start = self.here();
         self.put(&(self.inputs as u16).to_le_bytes());
-        (0..self.inputs).for_each(|_| self.named('N'));
+        (0..self.inputs).for_each(|_| self.named('G'));
         self.mark(Spot::Args, start, 0);
     }
 }
 
-fn one_of(chance: &mut Chance, names: &[String]) -> Option<String> {
-    if names.is_empty() { None } else { Some(names[chance.below(names.len())].clone()) }
+fn one_of<T: Clone>(chance: &mut Chance, items: &[T]) -> Option<T> {
+    if items.is_empty() { None } else { Some(items[chance.below(items.len())].clone()) }
 }
 
 /// A new symbol: mostly a short one, now and then of 1 or 255 bytes or of any length.

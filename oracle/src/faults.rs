@@ -1,8 +1,9 @@
 //! Kinds of task files by chance: valid ones, ones with one fault or two, and damaged ones.
 use crate::chance::Chance;
-use crate::draft::{named, symbol, text, Draft, Place, Plan, Spot};
+use crate::draft::{named, symbol, text, Draft, Place, Plan, Spot, DECLARED, HARMLESS};
 use crate::task::{
-    CONSTRAINT_CODES, DEEPEST, EXPR_CODES, FORMS, LONGEST_FILE, MAP_DEFAULT, NOTED, PRED_CODES, RESERVED, SET_EMPTY, SORT_CODES, TRAILER,
+    is_symbol, CLASH, CONSTRAINT_CODES, DEEPEST, EXPR_CODES, FORMS, LONGEST_FILE, MAP_DEFAULT, NOTED, PRED_CODES, RESERVED, SET_EMPTY,
+    SORT_CODES, TRAILER,
 };
 use crate::words::{joined, offsets, sealed};
 use std::ops::Range;
@@ -19,14 +20,15 @@ impl Case {
 /// A way to make a file: by itself, or a valid one with one fault that gets this refusal.
 pub enum Make { By(fn(&mut Chance) -> Case), With(u8, Fault) }
 
-/// What is put in place of the bytes of a span to make a draft faulty; nothing if the draft has no place for the fault.
+/// What is put in place of the bytes of a span to make a draft faulty; nothing if the draft has no place for the fault. `kept` is a span of
+/// bytes elsewhere that the fault needs as they are, with its section.
 type Fault = fn(&Draft, &mut Chance) -> Option<Splice>;
-pub struct Splice { section: usize, span: Range<usize>, bytes: Vec<u8> }
+pub struct Splice { section: usize, span: Range<usize>, bytes: Vec<u8>, kept: Option<(usize, Range<usize>)> }
 
 /// A kind of files: its name, its share among all, and how one is made.
 pub type Kind = (&'static str, usize, Make);
 
-pub const KINDS: [Kind; 41] = [
+pub const KINDS: [Kind; 45] = [
     ("tree", 200, By(|chance| valid(chance, SMALL))),
     ("middle", 40, By(|chance| valid(chance, Plan { pieces: 300, items: 5, ..SMALL }))),
     ("large", 2, By(|chance| valid(chance, Plan { pieces: 1500, items: 20, ..SMALL }))),
@@ -34,6 +36,7 @@ pub const KINDS: [Kind; 41] = [
     ("deep", 15, By(|chance| valid(chance, Plan { target: DEEPEST, ..SMALL }))),
     ("chain", 15, By(|chance| valid(chance, Plan { target: DEEPEST, chain: true, ..SMALL }))),
     ("size", 1, By(sized)),
+    ("harmless-binder", 30, By(harmless_binder)),
     ("1-length", 3, By(wrong_length)),
     ("1-mark", 3, By(wrong_mark)),
     ("1-offset", 12, By(wrong_offset)),
@@ -60,8 +63,11 @@ pub const KINDS: [Kind; 41] = [
     ("14-wkvar", 12, With(14, weak_kvar)),
     ("6-arguments", 20, With(6, wrong_arguments)),
     ("7-binder", 20, With(7, repeated_binder)),
+    ("15-binder", 15, With(CLASH, declared_binder)),
+    ("15-declared", 15, With(CLASH, binder_declared)),
     ("two-faults", 60, By(|chance| two_faults(chance, |_| true))),
     ("form-and-other", 60, By(|chance| two_faults(chance, |[a, b]| a != b && FORMS.contains(&a) && NOTED.contains(&b)))),
+    ("clash-and-other", 40, By(|chance| two_faults(chance, |[a, b]| a == CLASH && b != a && NOTED.contains(&b)))),
     ("border", 20, By(moved_border)),
     ("changed", 160, By(|chance| damaged(chance, change))),
     ("inserted", 60, By(|chance| damaged(chance, insert))),
@@ -103,12 +109,53 @@ fn sized(chance: &mut Chance) -> Case {
     Case::new(draft.file(), Some(over as u8))
 }
 
+/// A ForAll with a name that it may have: a harmless one, or one that is nearly declared.
+fn harmless_binder(chance: &mut Chance) -> Case {
+    let (mut draft, splice) = drafted(chance, |draft, chance| {
+        let letter = HARMLESS[chance.below(HARMLESS.len())];
+        let name = if chance.below(2) == 0 { draft.at(named_by(draft, chance, letter)?).to_vec() } else { nearly_declared(draft, chance)? };
+        let taken = |place: &Place| is_taken(&place.spot) && draft.at(place) == name;
+        let free = is_symbol(&name[1..]) && !draft.places.iter().any(taken);
+        Some(Splice::at(place(draft, chance, is_binder)?, name)).filter(|_| free)
+    });
+    splice.apply(&mut draft);
+    Case::new(draft.file(), Some(0))
+}
+
+/// A declared name with another last byte, with a byte more or without its last, behind its length.
+fn nearly_declared(draft: &Draft, chance: &mut Chance) -> Option<Vec<u8>> {
+    let mut name = draft.at(any_declared(draft, chance)?)[1..].to_vec();
+    match chance.below(3) {
+        0 => *name.last_mut()? ^= 1 << chance.below(6),
+        1 if name.len() < 255 => name.push(b'a'),
+        _ => drop(name.pop()),
+    }
+    Some(named(&name))
+}
+
 // ---- One fault
 
 impl Splice {
-    fn at(place: &Place, bytes: Vec<u8>) -> Self { Splice { section: place.section, span: place.span.clone(), bytes } }
+    fn new(section: usize, span: Range<usize>, bytes: Vec<u8>) -> Self { Splice { section, span, bytes, kept: None } }
+    fn at(place: &Place, bytes: Vec<u8>) -> Self { Splice::new(place.section, place.span.clone(), bytes) }
+
+    /// At one place what stands at another.
+    fn copy(draft: &Draft, to: &Place, from: &Place) -> Self {
+        Splice { kept: Some((from.section, from.span.clone())), ..Splice::at(to, draft.at(from).to_vec()) }
+    }
+
     fn apply(self, draft: &mut Draft) { drop(draft.sections[self.section].splice(self.span, self.bytes)) }
     fn start(&self) -> (usize, usize) { (self.section, self.span.start) }
+
+    /// Whether it leaves the bytes of a span alone.
+    fn spares(&self, section: usize, span: &Range<usize>) -> bool {
+        self.section != section || self.span.end <= span.start || span.end <= self.span.start
+    }
+
+    /// Whether the fault of another is there beside this one.
+    fn goes_with(&self, other: &Splice) -> bool {
+        self.spares(other.section, &other.span) && other.kept.iter().all(|(section, span)| self.spares(*section, span))
+    }
 }
 
 /// A valid draft and what `fault` finds in it.
@@ -165,7 +212,7 @@ fn wrong_code(draft: &Draft, chance: &mut Chance) -> Option<Splice> {
         Spot::Piece('P') => PRED_CODES,
         _ => CONSTRAINT_CODES,
     };
-    Some(Splice { section: place.section, span: place.span.start..place.span.start + 1, bytes: vec![beyond(chance, codes)] })
+    Some(Splice::new(place.section, place.span.start..place.span.start + 1, vec![beyond(chance, codes)]))
 }
 
 /// A flag, an operation, a relation, a quantifier or a theory function.
@@ -175,30 +222,34 @@ fn wrong_choice(draft: &Draft, chance: &mut Chance) -> Option<Splice> {
     Some(Splice::at(place, vec![beyond(chance, bound as usize)]))
 }
 
-fn is_name(spot: &Spot) -> bool { matches!(spot, Spot::Name | Spot::Binder(_)) }
+fn is_name(spot: &Spot) -> bool { matches!(spot, Spot::Name(_) | Spot::Binder(_)) }
+fn is_binder(spot: &Spot) -> bool { matches!(spot, Spot::Binder(_)) }
+
+/// A name that a ForAll has or may not have.
+fn is_taken(spot: &Spot) -> bool { is_binder(spot) || DECLARED.iter().any(|letter| *spot == Spot::Name(*letter)) }
 
 fn empty_name(draft: &Draft, chance: &mut Chance) -> Option<Splice> { Some(Splice::at(place(draft, chance, is_name)?, vec![0])) }
 
 /// A text with a length above that of any section.
 fn endless_text(draft: &Draft, chance: &mut Chance) -> Option<Splice> {
     let place = place(draft, chance, |spot| matches!(spot, Spot::String | Spot::Comment))?;
-    Some(Splice { section: place.section, span: place.span.start..place.span.start + 2, bytes: vec![255, 255] })
+    Some(Splice::new(place.section, place.span.start..place.span.start + 2, vec![255, 255]))
 }
 
 /// The section ends inside an item.
 fn cut_item(draft: &Draft, chance: &mut Chance) -> Option<Splice> {
     let place = place(draft, chance, |spot| *spot == Spot::Item)?;
     let cut = place.span.start + 1 + chance.below(place.span.len() - 1);
-    Some(Splice { section: place.section, span: cut..draft.sections[place.section].len(), bytes: Vec::new() })
+    Some(Splice::new(place.section, cut..draft.sections[place.section].len(), Vec::new()))
 }
 
 fn bytes_left(draft: &Draft, chance: &mut Chance) -> Option<Splice> {
     let (end, bytes) = (draft.sections[5].len(), (0..1 + chance.below(3)).map(|_| chance.below(4) as u8).collect());
-    Some(Splice { section: 5, span: end..end, bytes })
+    Some(Splice::new(5, end..end, bytes))
 }
 
 fn no_constraint(draft: &Draft, _: &mut Chance) -> Option<Splice> {
-    Some(Splice { section: 5, span: 0..draft.sections[5].len(), bytes: Vec::new() })
+    Some(Splice::new(5, 0..draft.sections[5].len(), Vec::new()))
 }
 
 fn too_deep(chance: &mut Chance) -> Case {
@@ -293,8 +344,29 @@ fn wrong_arguments(draft: &Draft, chance: &mut Chance) -> Option<Splice> {
 
 fn repeated_binder(draft: &Draft, chance: &mut Chance) -> Option<Splice> {
     let place = place(draft, chance, |spot| matches!(spot, Spot::Binder(Some(_))))?;
-    let Spot::Binder(Some(outer)) = &place.spot else { return None };
-    Some(Splice::at(place, named(outer.as_bytes())))
+    let Spot::Binder(Some(outer)) = place.spot else { return None };
+    Some(Splice::copy(draft, place, &draft.places[outer]))
+}
+
+/// A place of a name with this letter.
+fn named_by<'d>(draft: &'d Draft, chance: &mut Chance, letter: char) -> Option<&'d Place> {
+    place(draft, chance, |spot| *spot == Spot::Name(letter))
+}
+
+/// A place of a declared name, of each kind alike.
+fn any_declared<'d>(draft: &'d Draft, chance: &mut Chance) -> Option<&'d Place> {
+    let letter = DECLARED[chance.below(DECLARED.len())];
+    named_by(draft, chance, letter)
+}
+
+/// A ForAll gets a declared name.
+fn declared_binder(draft: &Draft, chance: &mut Chance) -> Option<Splice> {
+    Some(Splice::copy(draft, place(draft, chance, is_binder)?, any_declared(draft, chance)?))
+}
+
+/// Something declared gets the name of a ForAll.
+fn binder_declared(draft: &Draft, chance: &mut Chance) -> Option<Splice> {
+    Some(Splice::copy(draft, any_declared(draft, chance)?, place(draft, chance, is_binder)?))
 }
 
 /// Two faults that do not touch, with refusals to choose from: the first of those with 2 or 3 is met, else the first judged is answered.
@@ -304,8 +376,9 @@ fn two_faults(chance: &mut Chance, chosen: fn([u8; 2]) -> bool) -> Case {
     let (mut draft, mut two) = drafted(chance, |draft, chance| {
         let [(first, one), (second, other)] = [0, 1].map(|_| faults[chance.below(faults.len())]);
         let [a, b] = if chosen([first, second]) { [one(draft, chance)?, other(draft, chance)?] } else { return None };
-        let apart = a.section != b.section || a.span.end <= b.span.start || b.span.end <= a.span.start;
-        apart.then_some([(first, a), (second, b)])
+        // Two ForAlls with one declared name could be a repeat, which is another fault
+        let alike = [first, second] == [CLASH; 2] && a.bytes == b.bytes;
+        (a.goes_with(&b) && b.goes_with(&a) && !alike).then_some([(first, a), (second, b)])
     });
     two.sort_by_key(|(_, splice)| splice.start());
     let numbers = two.each_ref().map(|(refusal, _)| *refusal);

@@ -33,6 +33,18 @@ mod tests {
     }
 
     #[test]
+    fn two_faults_put_into_a_file_both_hold() {
+        let mut chance = Chance::new(SEED);
+        let kinds = KINDS.iter().filter(|kind| ["two-faults", "form-and-other", "clash-and-other"].contains(&kind.0));
+        for case in kinds.flat_map(|kind| [kind; EACH]).map(|kind| kind.2.case(&mut chance)) {
+            let pair = case.pair.expect("two faults");
+            if pair.iter().all(|refusal| NOTED.contains(refusal)) {
+                assert!(noted(&case.file).is_ok_and(|noted| pair.iter().all(|refusal| noted.contains(refusal))), "{pair:?}: {:?}", case.file);
+            }
+        }
+    }
+
+    #[test]
     fn limits_get_the_answers_they_were_made_for() {
         let limits = limits();
         limits.iter().for_each(|(name, case)| check_answer(name, case));
@@ -48,5 +60,7 @@ mod tests {
     fn a_file_shrinks_to_what_shows_its_fault() {
         let file = packed("c: \"long k: 'a 0 'b 1 v: 'k #0 h: 1 #3 0 K 0 1 6 0 T");
         assert_eq!(smallest(&file, |file| checked(file).is_err_and(|refusal| refusal == 14)), packed("h: 1 #3 0 K 0 1 6 0 T"));
+        let file = packed("c: \"long k: 'a 0 'b 1 v: 'k #0 h: 2 'y 0 #1 P 2 'a 0 #0 0 K");
+        assert_eq!(smallest(&file, |file| checked(file).is_err_and(|refusal| refusal == 15)), packed("k: 'a 0 h: 2 'a 0 #0 0 K"));
     }
 }

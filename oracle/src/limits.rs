@@ -83,6 +83,24 @@ const FAULTY: [(&str, u8, &str); 20] = [
     ("all", 4, "k: 'c 5 *4 f: 'f #0 #1 0 0 1 #0 E h: X X 0 0 'let #0"), ("repeated-beside", 0, "h: 1 #3 X 0 K X 0 K X Y 0 K"),
 ];
 
+/// ForAlls named like something declared or bound, of each kind, with heads under them and without; the merge task of W-207 comes first. Then
+/// names that are nearly declared, where the bytes of `Aa` and `BB` are one number to the base 31; and other faults beside that of 15.
+const CLASHING: [(&str, u8, &str); 29] = [
+    ("merge", 15, "k: 'lim 0 h: 2 'x 0 #1 1 10 4 5 'x 5 'lim 2 'lim 0 #0 0 1 10 3 5 'lim 5 'x"),
+    ("constant", 15, "k: 'x 0 h: X 0 K"), ("function", 15, "f: 'x #0 #0 0 0 h: X 0 K"), ("constructor", 15, "d: 'D #0 #1 'x #0 h: X 0 K"),
+    ("field", 15, "d: 'D #0 #1 'c #1 'x 0 h: X 0 K"), ("kvar", 15, "v: 'x #0 h: X 0 K"), ("datatype", 0, "d: 'x #0 #1 'c #0 h: X 0 K"),
+    ("argument", 0, "f: 'f #0 #1 0 0 1 #1 'x E h: X 0 K"), ("let", 0, "h: X 0 1 16 'x E 5 'x"), ("quantifier", 0, "h: X 0 1 20 0 #1 'x 0 5 'x"),
+    ("data-sort", 0, "k: 'c 11 'x #0 h: X 0 K"), ("var", 0, "h: X 0 1 5 'x"), ("tester", 0, "h: X 0 1 19 'x E"), ("head", 0, "h: X 0 0 'x #0"),
+    ("around-true", 15, "k: 'x 0 h: X 0 T"), ("around-nothing", 15, "v: 'k #0 'x #0 h: 1 #3 0 K C 1 #2 Y 0 K Z X C"),
+    ("last-of-each", 15, "d: 'A #0 #1 'a #0 'D #0 #2 'b #0 'c #2 'f 0 'x 0 k: 'c 0 f: 'f #0 #0 0 0 v: 'k #0 h: Y X 0 K"),
+    ("datatype-and-kvar", 15, "d: 'x #0 #1 'c #0 v: 'x #0 h: X 0 K"),
+    ("shorter", 0, "k: 'xx 0 h: X 0 K"), ("longer", 0, "k: 'x 0 h: 2 'xx 0 #0 0 K"), ("other-case", 0, "k: 'X 0 h: X 0 K"),
+    ("same-number", 0, "k: 'Aa 0 h: 2 'BB 0 #0 0 K"), ("same-number-and-name", 15, "k: 'Aa 0 'BB 0 h: 2 'BB 0 #0 0 K"),
+    ("and-repeated", 7, "k: 'x 0 h: X Y Y 0 K"), ("behind-repeated", 7, "k: 'x 0 h: 1 #2 Y Y 0 K X 0 K"),
+    ("repeated-itself", 7, "k: 'x 0 h: X X C"), ("and-arguments", 6, "k: 'x 0 f: 'f #0 #1 0 0 1 #0 E h: X 0 K"),
+    ("and-form", 14, "k: 'x 0 h: X 0 1 6"), ("and-name", 4, "k: 'x 0 h: X 0 1 5 'let"),
+];
+
 /// A file with something in every section.
 const FULL: &str = "c: \"ok d: 'D #1 #1 'c #1 'f 6 #0 k: 'c 11 'D #1 0 f: 'f #0 #1 0 1 1 #1 'x E v: 'k #1 0 h: 2 'x 0 #1 P 1 #2 0 K 0 1 E";
 
@@ -124,6 +142,7 @@ impl Limits {
         self.file("table-24-zeros-mark", Some(2), [&[0; 24], &b"HORN"[..]].concat());
         self.words("accident", 4, ACCIDENT);
         FAULTY.iter().for_each(|(name, due, words)| self.words(&format!("faulty-{name}"), *due, words));
+        CLASHING.iter().for_each(|(name, due, words)| self.words(&format!("clash-{name}"), *due, words));
     }
 
     fn levels(&mut self) {
@@ -138,6 +157,11 @@ impl Limits {
             self.words(&format!("binders-{}-{name}", fits + 1), 3, &format!("h: {}", nested(fits + 1, inner)));
         }
         self.words("binders-254-repeated", 7, &format!("h: {}", nested(253, "2 'x0 0 #0 C")));
+        for (name, due, constant, last) in [
+            ("declared-first", 15, "x0", "y"), ("declared-last", 15, "y", "y"), ("declared-none", 0, "x254", "y"), ("repeated", 7, "x0", "x253"),
+        ] {
+            self.words(&format!("binders-255-{name}"), due, &format!("k: '{constant} 0 h: {}", nested(254, &format!("2 '{last} 0 #0 C"))));
+        }
         self.words("deep", 0, &format!("h: {}", nested(200, &format!("1 #10000 {}", "0 F ".repeat(10_000)))));
         let sized = |due: &str| format!("k: 'c {}{due}", "9 #1 ".repeat(DEEPEST));
         [("nothing", ""), ("wrong-code", "255"), ("width", "5 *4")].iter().for_each(|(name, due)| {
@@ -152,6 +176,23 @@ impl Limits {
                 ("name-reserved", 4, "'set-option".to_string()), ("name-digit", 4, "'0x".to_string()),
             ] {
                 self.words(&format!("{name}-{place}"), due, &words.replace('@', &word));
+            }
+        }
+    }
+
+    /// Names of 255 bytes that are declared, and those that differ in their last byte, in their first, or by being a byte shorter.
+    fn long_names(&mut self) {
+        let long = "a".repeat(255);
+        for (place, words) in [
+            ("constant", "k: @ 0"), ("function", "f: @ #0 #0 0 0"), ("constructor", "d: 'D #0 #1 @ #0"), ("field", "d: 'D #0 #1 'c #1 @ 0"),
+            ("kvar", "v: @ #0"),
+        ] {
+            for (name, due, binder) in [
+                ("same", 15, long.clone()), ("last-byte", 0, long[1..].to_string() + "b"), ("first-byte", 0, "b".to_string() + &long[1..]),
+                ("shorter", 0, long[1..].to_string()),
+            ] {
+                let words = words.replace('@', &format!("'{long}"));
+                self.words(&format!("clash-255-{place}-{name}"), due, &format!("{words} h: 2 '{binder} 0 #0 0 K"));
             }
         }
     }
@@ -199,6 +240,26 @@ impl Limits {
         }
     }
 
+    /// As many constants as a file has room for, and a ForAll named like the first, the last or none of them; and in the longest file as many
+    /// ForAlls as constants, and behind them one named like the last constant or none.
+    fn clashes(&mut self) {
+        let constants = |many: usize| (0..many).map(|i| format!("'c{i:05} 0 ")).collect::<String>();
+        for size in [1000, 1001, 8000, 8001, LONGEST_FILE] {
+            let rest = |many: usize, binder: &str| format!("k: {} h: 2 '{binder} 0 #0 0 K", constants(many));
+            let many = (size - packed(&rest(0, "c00000")).len() - 2) / 8;
+            for (name, due, number) in [("first", 15, 0), ("last", 15, many - 1), ("none", 0, many)] {
+                self.words(&format!("clash-in-{size}-{name}"), due, &padded(size, &rest(many, &format!("c{number:05}"))));
+            }
+        }
+        let rest = |many: usize, binder: &str| {
+            format!("k: {} h: 1 #{} {} 2 '{binder} 0 #0 0 K", constants(many), many + 1, "2 'x 0 #0 C ".repeat(many))
+        };
+        let many = (LONGEST_FILE - packed(&rest(0, "c00000")).len() - 2) / 17;
+        for (name, due, number) in [("last", 15, many - 1), ("none", 0, many)] {
+            self.words(&format!("clash-behind-{many}-{name}"), due, &padded(LONGEST_FILE, &rest(many, &format!("c{number:05}"))));
+        }
+    }
+
     /// Paths whose binders or guards have so many bytes as text, in a file of so many bytes: heads and a ForAll under them, a shorter path behind.
     fn paths(&mut self) {
         for (size, bytes) in [(1000, 2048), (1000, 2049), (1001, 2049), (8000, 16_384), (8000, 16_385)] {
@@ -231,10 +292,12 @@ pub fn limits() -> Vec<(String, Case)> {
     limits.table();
     limits.levels();
     limits.names();
+    limits.long_names();
     limits.numbers();
     limits.strings();
     limits.sizes();
     limits.tables();
+    limits.clashes();
     limits.paths();
     limits.offsets();
     limits.0

@@ -1,4 +1,5 @@
 //! What a task file holds: its tree, and how a file is read into one or refused with a number.
+use std::collections::HashSet;
 
 pub type Answer<T> = Result<T, u8>;
 pub type Binder<'a> = (&'a str, Sort<'a>);
@@ -65,7 +66,7 @@ impl Pred<'_> {
 // ---- Reading. Refusals 1, 2 and 3 end it. What gets another is noted and reading goes on.
 
 /// The refusals of a file in the order of judging; of 2 and 3 the first met counts.
-pub const REFUSALS: [u8; 10] = [1, 2, 3, 4, NO_CTORS, WIDTH, UNQUALIFIED, WEAK, 6, 7];
+pub const REFUSALS: [u8; 11] = [1, 2, 3, 4, NO_CTORS, WIDTH, UNQUALIFIED, WEAK, 6, 7, CLASH];
 /// Those that are noted.
 pub const NOTED: &[u8] = REFUSALS.split_at(3).1;
 /// The forms that the source cannot write: a datatype without constructors, a BitVec over another sort than BvSize or a BvSize elsewhere,
@@ -75,6 +76,8 @@ const NO_CTORS: u8 = 5;
 const WIDTH: u8 = 12;
 const UNQUALIFIED: u8 = 13;
 const WEAK: u8 = 14;
+/// A ForAll that has the name of something declared.
+pub const CLASH: u8 = 15;
 
 pub const TRAILER: usize = 28;
 pub const LONGEST_FILE: usize = 60_000;
@@ -296,18 +299,45 @@ impl<'a> Reader<'a> {
     }
 }
 
+/// The names that no ForAll may have: those of constants, functions, constructors, fields and KVars. A datatype's own and those of arguments
+/// are not among them.
+fn declared<'a>(task: &Task<'a>) -> HashSet<&'a str> {
+    let ctors = || task.datatypes.iter().flat_map(|datatype| &datatype.ctors);
+    let fields = ctors().flat_map(|ctor| &ctor.fields).map(|(name, _)| *name);
+    let constants = task.constants.iter().map(|(name, _)| *name);
+    let functions = task.functions.iter().map(|function| function.name);
+    ctors().map(|ctor| ctor.name).chain(fields).chain(constants).chain(functions).chain(task.kvars.iter().map(|kvar| kvar.name)).collect()
+}
+
+/// Whether a ForAll has one of these names, be there heads under it or not.
+fn clashes(constraint: &Constraint, names: &HashSet<&str>) -> bool {
+    match constraint {
+        Constraint::Pred(_) => false,
+        Constraint::Conj(members) => members.iter().any(|member| clashes(member, names)),
+        Constraint::ForAll((name, _), _, body) => names.contains(name) || clashes(body, names),
+    }
+}
+
 /// The task with the bits of what was noted, or the first met of refusals 1 to 3.
 fn read(file: &[u8]) -> Answer<(Task<'_>, u32)> {
     let offsets = trailer(file)?;
     let mut reader = Reader { bytes: &file[..file.len() - TRAILER], at: 0, end: 0, faults: 0, around: Vec::new() };
-    Ok((reader.task(&offsets)?, reader.faults))
+    let task = reader.task(&offsets)?;
+    reader.note(clashes(&task.constraint, &declared(&task)), CLASH);
+    Ok((task, reader.faults))
 }
+
+/// The refusals of these bits in the order of judging.
+fn judged(faults: u32) -> impl Iterator<Item = u8> { NOTED.iter().copied().filter(move |refusal| faults >> refusal & 1 == 1) }
 
 /// The task, or the refusal: the first met of 1 to 3, else the first judged of what was noted.
 pub fn accepted(file: &[u8]) -> Answer<Task<'_>> {
     let (task, faults) = read(file)?;
-    NOTED.iter().find(|refusal| faults >> **refusal & 1 == 1).map_or(Ok(task), |refusal| Err(*refusal))
+    judged(faults).next().map_or(Ok(task), Err)
 }
+
+/// All that was noted of a task, in the order of judging.
+pub fn noted(file: &[u8]) -> Answer<Vec<u8>> { Ok(judged(read(file)?.1).collect()) }
 
 /// The task, whatever was noted of it.
 pub fn decoded(file: &[u8]) -> Answer<Task<'_>> { Ok(read(file)?.0) }

@@ -74,6 +74,28 @@ fn each_form_without_a_text_has_its_number() {
     }
 }
 
+/// A ForAll named like a constant, a function, a constructor, a field or a KVar, and the merge task: the constant lim; ForAll x with the predicate
+/// x < lim, over ForAll lim over the head lim >= x.
+#[test]
+fn a_for_all_named_like_something_declared_is_refused() {
+    const FOR_ALL: &[u8] = &[2, 1, b'x', 0, 0, 0, 1, 0, 0];
+    const MERGE: &[u8] = b"\x02\x01x\0\x01\0\x01\x0a\x04\x05\x01x\x05\x03lim\x02\x03lim\0\0\0\0\x01\x0a\x03\x05\x03lim\x05\x01x";
+    for file in [
+        file_with(2, b"\x03lim\0", MERGE),
+        file_with(2, &[1, b'x', 0], FOR_ALL),
+        file_with(3, &[1, b'x', 0, 0, 0, 0, 0, 0], FOR_ALL),
+        file_with(1, &[1, b'D', 0, 0, 1, 0, 1, b'x', 0, 0], FOR_ALL),
+        file_with(1, &[1, b'D', 0, 0, 1, 0, 1, b'c', 1, 0, 1, b'x', 0], FOR_ALL),
+        file_with(4, &[1, b'x', 0, 0], FOR_ALL),
+    ] {
+        let mut buf = [FILLED; 512];
+        assert_eq!([number(survey(&file)), number(part(&file, 0, &mut buf)), number(script(&file, &mut buf))], [Some(15); 3]);
+        assert!(buf.iter().all(|byte| *byte == FILLED));
+    }
+    assert_eq!(number(survey(&file_with(2, b"\x03lin\0", MERGE))), None);
+    assert_eq!(number(survey(&file_with(1, &[1, b'x', 0, 0, 1, 0, 1, b'c', 0, 0], FOR_ALL))), None);
+}
+
 #[test]
 fn a_line_break_in_a_comment_is_refused() {
     let mut file = file_with(0, b"\x0c\0\n(check-sat)", NOTHING);

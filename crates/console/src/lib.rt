@@ -1,11 +1,11 @@
 // What the program `hornscript` writes for a task file: its script on standard output, or one line `refused N` and nothing else.
 use flatten::Range;
-use inspect::Bounds;
 use inspect::Inspected;
 use libc::STDOUT_FILENO;
 use smt_horn::Surveyed;
+use trailer::Bounds;
 ghost use Prim.Native.Nat.{_<_, _≤_};
-ghost use Rattle.inspect.specs.Walk.{Inside};
+ghost use Rattle.trailer.specs.Bounds.{Inside};
 ghost use Rattle.names.specs.Table.{Chained};
 
 // Writes the script, or `refused N`: survey's number, or 9 if a part is longer than the 65,536 bytes that are written at once.
@@ -32,12 +32,11 @@ pub fn print_refused(n: u64) {
 
 // Writes the first n parts of a file that holds a task, with a table of the names that it declares.
 fn print_parts(file: &[u8], n: usize) {
-    let inspected = inspect::inspect(file);
+    let mut table = [0u16; 61026];
+    let inspected = inspect::inspect(file, &mut table);
     let Inspected::Task(b, _, _) = inspected else {
         return;
     };
-    let mut table = [0u16; 61026];
-    declared::declare(file, b, &mut table);
     print_all(file, b, &table, n);
 }
 

@@ -16,21 +16,22 @@ use Rattle.task.specs.declared.SpanRead.{SpanRead}
 use Rattle.task.specs.declared.SpanRead.the-variants as span-is
 use Rattle.task.specs.declared.ConstraintNode.{ConstraintNode}
 use Rattle.task.specs.declared.ConstraintNode.the-variants as constraint-node
-use Rattle.task.specs.Ast.{Sort, Pred, Constraint, Constraints}
-use Rattle.task.specs.Decode.{Res, got, refuse, bind, Decoder, give, _▹_, number, many, counted, name, decSort, decPred, constraintForms, decConstraint}
-use Rattle.task.specs.Fault.{lower, each, nameFault, sortFault, predFault, shadowFault, constraintFault, constraintsFault}
+use Rattle.task.specs.Ast.{Sort, Binder, Pred, Constraint, Constraints}
+use Rattle.task.specs.Decode.{Res, got, refuse, bind, give, _▹_, number, many, counted, name, binder, decSort, decPred, constraintForms, decConstraint}
+use Rattle.task.specs.Fault.{lower, each, nameFault, sortFault, binderFault, predFault, shadowFault, constraintFault, constraintsFault}
 use Rattle.task.specs.Task.{literallyTrue, predHeads, headsOf, headsIn}
 use Rattle.task.specs.Node.{numberOf, bytesOf, spanOf, constraintOf, ConstraintAt}
-use Rattle.task.proofs.Reading.{coded-at}
-use Rattle.task.proofs.Judging.{lower-assoc, sound-lower}
+use Rattle.task.proofs.Reading.{coded-at, bind-got, same-value}
+use Rattle.task.proofs.Judging.{lower-assoc, lower-comm, sound-lower}
 use Rattle.task.proofs.Pieces.{each-covers}
 use Rattle.task_check.specs.declared.Walked.{Walked}
 use Rattle.task_check.specs.declared.Walked.the-variants as walked-is
 use Rattle.task_check.specs.Walk.{walked, after, readTrue}
 use Rattle.task_check.proofs.Rows.{after-sound, Fold, Nexts, next-is, refused-is, row-goes, row-stops, row-ends}
+use Rattle.task_check.proofs.Exprs.{stops as walk-stops, goes as walk-goes, lasts as walk-lasts}
 use Rattle.constraint_check.specs.declared.Counted.{Counted}
 use Rattle.constraint_check.specs.Tally.{answer, found, tally}
-use Rattle.constraint_check.specs.Around.{namesOn, isHead, forAll}
+use Rattle.constraint_check.specs.Around.{namesOn, isHead, Header, headerFault, header, forAll}
 use Rattle.constraint_check.proofs.Names.{names-append, head-stands}
 
 -- an answer part by part
@@ -132,66 +133,107 @@ module _ (l : ℕ) (s : List ℕ) (at : ℕ) (around : List (List ℕ)) where
       → c ≡ tally (constraintFault around) headsOf (decConstraint l s at)
   constraint-head b c e t u = let h = head-node l s at b e t in constraint-pred (constraint-node.Pred (at + 1)) (h .0) (h .1) (at + 1) c refl u
 
--- a ForAll: refused in its name, its sort, its count or its predicates, or walked to its end
+-- a header: refused in its binder, its count or its predicates, or walked to its end
+module _ (l : ℕ) (s : List ℕ) (at : ℕ) (v : Walked) (u : v ≡ walked binderFault (binder l s at)) where
+  -- what follows the binder
+  behind : Binder → ℕ → Res Header
+  behind b p = (counted [] _∷_ (decPred l) ▹ λ ps. give (record { binder = b; preds = ps })) s p
+
+  pub header-stops : (j : ℕ) → v ≡ walked-is.Refused j → v ≡ walked headerFault (header l s at)
+  unfolding behind
+  header-stops j u' = walk-stops binderFault headerFault (binder l s at) behind v j u u'
+
+  module _ (p : ℕ) (f : Fault) (u' : v ≡ walked-is.Next p f) (k : Number) (i : number 2 s p ≡ numberOf k) where
+    from-binder : (w : Walked) → ((b : Binder) → binderFault b ≡ f → w ≡ walked headerFault (behind b p)) → w ≡ walked headerFault (header l s at)
+    unfolding behind
+    from-binder w h = walk-goes binderFault headerFault (binder l s at) behind v p f w u u' (λ b z g. h b g)
+
+    pub header-uncounted : k ≡ number-is.Refused → walked-is.Refused 2 ≡ walked headerFault (header l s at)
+    unfolding behind
+    header-uncounted i' = from-binder (walked-is.Refused 2) (λ b g. rw (i, i'))
+
+    pub header-walks : (n q : ℕ) (v' w : Walked) → k ≡ number-is.Value n q → v' ≡ walked (each predFault) (many [] _∷_ (decPred l) n s q) → w ≡ after f v'
+        → w ≡ walked headerFault (header l s at)
+    unfolding behind
+    header-walks n q v' w i' m a =
+        from-binder w (λ b g. rw (i, i')
+        (a ∙ ap (after f) m
+        ∙ walk-lasts (each predFault) headerFault (many [] _∷_ (decPred l) n s q) (λ ps. record { binder = b; preds = ps }) f (λ ps. rw g)))
+
+-- a ForAll is its header and its body
+pub for-all-is : (l : ℕ) (s : List ℕ) (at : ℕ)
+    → forAll l s at ≡ bind (header l s at) (λ h p. bind (decConstraint l s p) (λ c q. got (Constraint.forAll (h .binder .name) (h .binder .sort) (h .preds) c) q))
+for-all-is l s at = by-name (name s at)
+  where
+    by-preds : (x : List ℕ) (b : Sort) (y : Res (List Pred)) → bind y (λ ps p. bind (decConstraint l s p) (λ c q. got (Constraint.forAll x b ps c) q))
+        ≡ bind (bind y (λ ps p. got (record { binder = record { name = x; sort = b }; preds = ps }) p)) (λ (h : Header) p. bind (decConstraint l s p) (λ c q. got (Constraint.forAll (h .binder .name) (h .binder .sort) (h .preds) c) q))
+    by-preds x b (got ps p) = refl
+    by-preds x b (refuse k) = refl
+
+    by-sort : (x : List ℕ) (y : Res Sort) → bind y (λ b p. bind (counted [] _∷_ (decPred l) s p) (λ ps r. bind (decConstraint l s r) (λ c q. got (Constraint.forAll x b ps c) q)))
+        ≡ bind (bind (bind y (λ b p. got (record { name = x; sort = b }) p)) (λ (b : Binder) p. bind (counted [] _∷_ (decPred l) s p) (λ ps q. got (record { binder = b; preds = ps }) q)))
+        (λ (h : Header) p. bind (decConstraint l s p) (λ c q. got (Constraint.forAll (h .binder .name) (h .binder .sort) (h .preds) c) q))
+    by-sort x (got b p) = by-preds x b (counted [] _∷_ (decPred l) s p)
+    by-sort x (refuse k) = refl
+
+    by-name : (y : Res (List ℕ)) → bind y (λ x p. bind (decSort l s p) (λ b t. bind (counted [] _∷_ (decPred l) s t) (λ ps r. bind (decConstraint l s r) (λ c q. got (Constraint.forAll x b ps c) q))))
+        ≡ bind (bind (bind y (λ x p. bind (decSort l s p) (λ b q. got (record { name = x; sort = b }) q))) (λ (b : Binder) p. bind (counted [] _∷_ (decPred l) s p) (λ ps q. got (record { binder = b; preds = ps }) q)))
+        (λ (h : Header) p. bind (decConstraint l s p) (λ c q. got (Constraint.forAll (h .binder .name) (h .binder .sort) (h .preds) c) q))
+    by-name (got x p) = by-sort x (decSort l s p)
+    by-name (refuse k) = refl
+
+-- the name in a header is the one that stands there
+pub header-named : (l : ℕ) (s : List ℕ) (at : ℕ) (h : Header) (t : ℕ) (x : List ℕ) (p : ℕ) → header l s at ≡ got h t → name s at ≡ got x p → h .binder .name ≡ x
+header-named l s at h t x p e e' =
+    let i = bind-got (binder l s at) _ h t e in
+    let j = bind-got (name s at) _ (i .value) (i .next) (i .first) in
+    let k = bind-got (decSort l s (j .next)) _ (i .value) (i .next) (j .then) in
+    let m = bind-got (counted [] _∷_ (decPred l) s (i .next)) _ h t (i .then) in
+    let d : record { binder = i .value; preds = m .value } ≡ h = same-value (m .then) in
+    let c : record { name = j .value; sort = k .value } ≡ i .value = same-value (k .then) in
+    sym (ap (λ (g : Header). g .binder .name) d) ∙ sym (ap (λ (b : Binder). b .name) c) ∙ same-value (sym (j .first) ∙ e')
+
+-- a ForAll: refused in its name or its header, or walked to its end
 module _ (l : ℕ) (s offsets : List ℕ) (at : ℕ) (x : SpanRead) (e : name s at ≡ spanOf s x) where
   pub for-all-unnamed : (c : Counted) → x ≡ span-is.Refused → c ≡ answer (walked-is.Refused 2) 0 → c ≡ tally (constraintFault (namesOn s offsets)) headsOf (forAll l s at)
   for-all-unnamed c e' u = rw (e, e') u
 
-  module _ (y : Span) (p : ℕ) (e' : x ≡ span-is.At y p) (v : Walked) (u : v ≡ walked (sortFault false) (decSort l s p)) where
-    -- what follows the name
-    behind : Sort → Decoder Constraint
-    behind b = counted [] _∷_ (decPred l) ▹ λ ps. decConstraint l ▹ λ c. give (Constraint.forAll (bytesOf s y) b ps c)
+  module _ (y : Span) (p : ℕ) (e' : x ≡ span-is.At y p) (v : Walked) (u : v ≡ walked headerFault (header l s at)) where
+    -- what follows the header
+    under : Header → ℕ → Res Constraint
+    under h t = bind (decConstraint l s t) (λ c q. got (Constraint.forAll (h .binder .name) (h .binder .sort) (h .preds) c) q)
 
-    from-name : (c : Counted) → c ≡ tally (constraintFault (namesOn s offsets)) headsOf ((decSort l ▹ λ b. counted [] _∷_ (decPred l) ▹ λ ps. decConstraint l ▹ λ c. give (Constraint.forAll (bytesOf s y) b ps c)) s p)
-        → c ≡ tally (constraintFault (namesOn s offsets)) headsOf (forAll l s at)
-    from-name c w = rw (e, e') w
+    from-header : (c : Counted) → c ≡ tally (constraintFault (namesOn s offsets)) headsOf (bind (header l s at) under) → c ≡ tally (constraintFault (namesOn s offsets)) headsOf (forAll l s at)
+    unfolding under
+    from-header c w = w ∙ sym (ap (tally (constraintFault (namesOn s offsets)) headsOf) (for-all-is l s at))
 
-    pub for-all-sort-stops : (j : ℕ) → v ≡ walked-is.Refused j → answer v 0 ≡ tally (constraintFault (namesOn s offsets)) headsOf (forAll l s at)
-    unfolding behind
-    for-all-sort-stops j u' = from-name (answer v 0) (stops (sortFault false) (constraintFault (namesOn s offsets)) headsOf (decSort l s p) (λ b q. behind b s q) v j u u')
+    pub for-all-stops : (j : ℕ) → v ≡ walked-is.Refused j → answer v 0 ≡ tally (constraintFault (namesOn s offsets)) headsOf (forAll l s at)
+    for-all-stops j u' = from-header (answer v 0) (stops headerFault (constraintFault (namesOn s offsets)) headsOf (header l s at) under v j u u')
 
-    module _ (q : ℕ) (f : Fault) (u' : v ≡ walked-is.Next q f) (k : Number) (i : number 2 s q ≡ numberOf k) where
-      from-sort : (c : Counted) → ((b : Sort) → sortFault false b ≡ f → c ≡ tally (constraintFault (namesOn s offsets)) headsOf (behind b s q))
-          → c ≡ tally (constraintFault (namesOn s offsets)) headsOf (forAll l s at)
-      unfolding behind
-      from-sort c h = from-name c (goes (sortFault false) (constraintFault (namesOn s offsets)) headsOf (decSort l s p) (λ b q. behind b s q) v q f c u u' (λ b z g. h b g))
-
-      pub for-all-uncounted : (c : Counted) → k ≡ number-is.Refused → c ≡ answer (walked-is.Refused 2) 0 → c ≡ tally (constraintFault (namesOn s offsets)) headsOf (forAll l s at)
-      unfolding behind
-      for-all-uncounted c i' w = from-sort c (λ b g. rw (i, i') w)
-
-      module _ (n r : ℕ) (i' : k ≡ number-is.Value n r) (v' : Walked) (m : v' ≡ walked (each predFault) (many [] _∷_ (decPred l) n s r)) where
-        under : Sort → List Pred → ℕ → Res Constraint
-        under b ps t = (decConstraint l ▹ λ c. give (Constraint.forAll (bytesOf s y) b ps c)) s t
-
-        from-count : (c : Counted) → ((b : Sort) → sortFault false b ≡ f → c ≡ tally (constraintFault (namesOn s offsets)) headsOf (bind (many [] _∷_ (decPred l) n s r) (under b)))
-            → c ≡ tally (constraintFault (namesOn s offsets)) headsOf (forAll l s at)
-        unfolding behind under
-        from-count c h = from-sort c (λ b g. rw (i, i') (h b g))
-
-        pub for-all-preds-stop : (j : ℕ) → v' ≡ walked-is.Refused j → answer v' 0 ≡ tally (constraintFault (namesOn s offsets)) headsOf (forAll l s at)
-        for-all-preds-stop j m' =
-            from-count (answer v' 0) (λ b g. stops (each predFault) (constraintFault (namesOn s offsets)) headsOf (many [] _∷_ (decPred l) n s r) (under b) v' j m m')
-
-        pub for-all-walks : (t : ℕ) (g : Fault) (offsets' : List ℕ) (c : Counted) (fg fs fb : Fault) (w : Walked) → v' ≡ walked-is.Next t g
-            → offsets' ≡ offsets ++ at ∷ [] → c ≡ tally (constraintFault (namesOn s offsets')) headsOf (decConstraint l s t)
-            → fg ≡ lower f g → fs ≡ shadowFault (namesOn s offsets) (bytesOf s y) → fb ≡ lower (nameFault (bytesOf s y)) (lower fs fg) → w ≡ after fb (c .walked)
-            → answer w (c .heads) ≡ tally (constraintFault (namesOn s offsets)) headsOf (forAll l s at)
-        unfolding under constraintFault headsOf
-        for-all-walks t g offsets' c fg fs fb w m' o d a sf a' a'' =
-            let names : namesOn s offsets' ≡ namesOn s offsets ++ bytesOf s y ∷ [] = ap (namesOn s) o ∙ names-append s offsets at (bytesOf s y) p (e ∙ ap (spanOf s) e') in
-            let inner = constraintFault (namesOn s offsets ++ bytesOf s y ∷ []) in
-            let d' : c ≡ tally inner headsOf (decConstraint l s t) = d ∙ ap (λ (xs : List (List ℕ)). tally (constraintFault xs) headsOf (decConstraint l s t)) names in
-            from-count (answer w (c .heads)) (λ b z.
-            goes (each predFault) (constraintFault (namesOn s offsets)) headsOf (many [] _∷_ (decPred l) n s r) (under b) v' t g (answer w (c .heads)) m m' (λ ps k' z'.
-            parts (a'' ∙ ap (λ (q : Counted). after fb (q .walked)) d') (ap (λ (q : Counted). q .heads) d')
-            ∙ ends inner headsOf (constraintFault (namesOn s offsets)) headsOf (decConstraint l s t) (Constraint.forAll (bytesOf s y) b ps) fb
-            (λ c'. rw (a', sf, a, ← z, ← z') (regroup (nameFault (bytesOf s y)) (shadowFault (namesOn s offsets) (bytesOf s y)) (sortFault false b) (each predFault ps) (inner c')))
-            (λ c'. refl)))
-          where
-            regroup : (f1 f2 f3 f4 f5 : Fault) → lower f1 (lower f2 (lower f3 (lower f4 f5))) ≡ lower (lower f1 (lower f2 (lower f3 f4))) f5
-            regroup f1 f2 f3 f4 f5 =
-                sym (lower-assoc f1 (lower f2 (lower f3 f4)) f5 ∙ ap (lower f1) (lower-assoc f2 (lower f3 f4) f5 ∙ ap (lower f2) (lower-assoc f3 f4 f5)))
+    pub for-all-walks : (t : ℕ) (f : Fault) (offsets' : List ℕ) (c : Counted) (fs fb : Fault) (w : Walked) → v ≡ walked-is.Next t f
+        → offsets' ≡ offsets ++ at ∷ [] → c ≡ tally (constraintFault (namesOn s offsets')) headsOf (decConstraint l s t)
+        → fs ≡ shadowFault (namesOn s offsets) (bytesOf s y) → fb ≡ lower f fs → w ≡ after fb (c .walked)
+        → answer w (c .heads) ≡ tally (constraintFault (namesOn s offsets)) headsOf (forAll l s at)
+    unfolding under constraintFault headsOf binderFault
+    for-all-walks t f offsets' c fs fb w u' o d sf a a' =
+        let own : name s at ≡ got (bytesOf s y) p = e ∙ ap (spanOf s) e' in
+        let names : namesOn s offsets' ≡ namesOn s offsets ++ bytesOf s y ∷ [] = ap (namesOn s) o ∙ names-append s offsets at (bytesOf s y) p own in
+        let inner = constraintFault (namesOn s offsets ++ bytesOf s y ∷ []) in
+        let d' : c ≡ tally inner headsOf (decConstraint l s t) = d ∙ ap (λ (xs : List (List ℕ)). tally (constraintFault xs) headsOf (decConstraint l s t)) names in
+        from-header (answer w (c .heads)) (
+        goes headerFault (constraintFault (namesOn s offsets)) headsOf (header l s at) under v t f (answer w (c .heads)) u u' (λ h z g.
+        let n : h .binder .name ≡ bytesOf s y = header-named l s at h t (bytesOf s y) p z own in
+        parts (a' ∙ ap (λ (q : Counted). after fb (q .walked)) d') (ap (λ (q : Counted). q .heads) d')
+        ∙ ends inner headsOf (constraintFault (namesOn s offsets)) headsOf (decConstraint l s t) (Constraint.forAll (h .binder .name) (h .binder .sort) (h .preds)) fb
+        (λ c'. rw (a, sf, ← g, n) (regroup (nameFault (bytesOf s y)) (shadowFault (namesOn s offsets) (bytesOf s y)) (sortFault false (h .binder .sort)) (each predFault (h .preds)) (inner c')))
+        (λ c'. refl)))
+      where
+        -- the fault of a repeat comes behind those of sort and predicates as well as before them
+        regroup : (f1 f2 f3 f4 f5 : Fault) → lower f1 (lower f2 (lower f3 (lower f4 f5))) ≡ lower (lower (lower (lower f1 f3) f4) f2) f5
+        regroup f1 f2 f3 f4 f5 =
+            ap (lower f1) (ap (lower f2) (sym (lower-assoc f3 f4 f5)) ∙ sym (lower-assoc f2 (lower f3 f4) f5) ∙ ap (λ (g : Fault). lower g f5) (lower-comm f2 (lower f3 f4)) ∙ lower-assoc (lower f3 f4) f2 f5)
+            ∙ sym (lower-assoc f1 (lower f3 f4) (lower f2 f5)) ∙ sym (lower-assoc (lower f1 (lower f3 f4)) f2 f5)
+            ∙ ap (λ (g : Fault). lower (lower g f2) f5) (sym (lower-assoc f1 f3 f4))
 
 pub members-fold : (around : List (List ℕ)) → Fold Constraints.none Constraints.more (constraintFault around) (constraintsFault around)
 unfolding constraintFault constraintsFault

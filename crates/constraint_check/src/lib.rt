@@ -12,13 +12,14 @@ ghost use Prim.Native.Nat.{_+_, _<_};
 ghost use lib.ListN.{length};
 ghost use Rattle.task.specs.Ast.{Constraints};
 ghost use Rattle.task.specs.Decode.{many, decPred, decConstraint, deepest};
-ghost use Rattle.task.specs.Fault.{lower, nameFault, predFault, constraintFault, constraintsFault, shadowFault};
+ghost use Rattle.task.specs.Fault.{predFault, constraintFault, constraintsFault, shadowFault};
 ghost use Rattle.task.specs.Task.{predHeads, headsOf, headsIn};
 ghost use Rattle.task.specs.Node.{bytesOf};
 ghost use Rattle.task_check.specs.declared.Walked.the-variants as walked-is;
+ghost use Rattle.task_check.specs.Walk.{walked};
 ghost use Rattle.path.specs.Offsets.{entries, Leaves};
 ghost use Rattle.constraint_check.specs.Tally.{answer, tally};
-ghost use Rattle.constraint_check.specs.Around.{namesOn, isHead, forAll};
+ghost use Rattle.constraint_check.specs.Around.{namesOn, isHead, headerFault, header, forAll};
 
 // Where a piece ends and its fault, or the number of the refusal, and the number of its heads that are not literally true.
 pub struct Counted {
@@ -122,16 +123,6 @@ fn check_members(s: &[u8], at: usize, n: u64, levels: usize, path: Path) -> Coun
     }
 }
 
-// The fault of a ForAll's name, before that of its sort and predicates.
-fn binder_fault(s: &[u8], x: Span, shadow: Fault, rest: Fault) -> Fault
-    ensures { λ r. ⌜ r ≡ lower (nameFault (bytesOf (now (s .entry)) x)) (lower shadow rest) ⌝ }
-{
-    task_check::lower(
-        task_check::name_fault(s, x),
-        task_check::lower(shadow, rest),
-    )
-}
-
 // A piece that leaves the section, or a code or a name that is none.
 fn refused() -> Counted
     ensures { λ r. ⌜ r ≡ answer (walked-is.Refused 2) 0 ⌝ }
@@ -142,40 +133,44 @@ fn refused() -> Counted
     }
 }
 
-// A ForAll behind its code: name, sort, counted predicates, body.
+// A ForAll's header, which stands behind its code: name, sort, counted predicates.
+pub fn check_header(s: &[u8], at: usize, levels: usize) -> Walked
+    ensures { λ r. ⌜ r ≡ walked headerFault (header levels (now (s .entry)) at) ⌝ }
+{
+    let binder = task_check::check_binder(s, at, levels);
+    let Walked::Next(p, f) = binder else {
+        return binder;
+    };
+    let count = task::number_at(s, p, 2);
+    let Number::Value(n, q) = count else {
+        return Walked::Refused(2);
+    };
+    let preds = task_check::check_preds(s, q, n, levels);
+    task_check::after(f, preds)
+}
+
+// A ForAll behind its code: header and body.
 fn check_for_all(s: &[u8], at: usize, levels: usize, mut path: Path) -> Counted
     requires { ⌜ Leaves path (levels + 1) × (length (now s) < 65536) ⌝ }
     ensures { λ r. ⌜ r ≡ tally (constraintFault (namesOn (now (s .entry)) (entries path))) headsOf (forAll levels (now (s .entry)) at) ⌝ }
 {
     let name = task::read_name(s, at);
-    let SpanRead::At(x, p) = name else {
+    let SpanRead::At(x, _) = name else {
         return refused();
     };
-    let sort = task_check::check_sort(s, p, levels, false);
-    let Walked::Next(q, f) = sort else {
+    let header = check_header(s, at, levels);
+    let Walked::Next(p, f) = header else {
         return Counted {
-            walked: sort,
-            heads: 0,
-        };
-    };
-    let count = task::number_at(s, q, 2);
-    let Number::Value(n, r) = count else {
-        return refused();
-    };
-    let preds = task_check::check_preds(s, r, n, levels);
-    let Walked::Next(t, g) = preds else {
-        return Counted {
-            walked: preds,
+            walked: header,
             heads: 0,
         };
     };
     let shadow = shadow_fault(s, x, path);
-    let fault = binder_fault(s, x, shadow, task_check::lower(f, g));
     path = path.push(at);
-    let body = check_within(s, t, levels, path);
+    let body = check_within(s, p, levels, path);
     let walked = body.walked;
     Counted {
-        walked: task_check::after(fault, walked),
+        walked: task_check::after(task_check::lower(f, shadow), walked),
         heads: body.heads,
     }
 }

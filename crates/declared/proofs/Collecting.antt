@@ -18,7 +18,7 @@ use Rattle.task.specs.Ast.{Sorts, Binder, DataDecl, FunDef, KVarDecl}
 use Rattle.task.specs.Decode.{Res, got, refuse, bind, Decoder, refusal, raw, number, many, counted, name, flag, binder, decSort, dataCtor, datatype, constant, body, function, kvar, deepest}
 use Rattle.task.specs.Fault.{sortFault, datatypeFault, binderFault, functionFault, kvarFault}
 use Rattle.task.specs.Node.{bytesOf, spanOf, numberOf}
-use Rattle.task.proofs.Reading.{bind-got, got-refuse, number-got, raw-got, byte-fits}
+use Rattle.task.proofs.Reading.{bind-got, got-refuse, same-value, number-got, raw-got, byte-fits}
 use Rattle.task.proofs.Running.{Steps, Owing, owing-start, owing-more, owing-end}
 use Rattle.task_check.specs.declared.Walked.{Walked}
 use Rattle.task_check.specs.declared.Walked.the-variants as walked-is
@@ -172,10 +172,6 @@ module _ (s t : List ℕ) (at : ℕ) (v : SpanRead) (h : name s at ≡ spanOf s 
             (many [] _∷_ dataCtor n s q') (rw (is-name, g ∙ ap numberOf e', j ∙ ap numberOf e'')) (l .short) w is-name (λ cs. refl) c
 
 -- ITEMS
-
--- what was decoded is the same
-same-value : {A : Type 0} {a b : A} {p q : ℕ} → got a p ≡ got b q → a ≡ b
-same-value e = cc
 
 -- an item has the name that it begins with
 record Begins (s : List ℕ) (at : ℕ) (x : List ℕ) : Type 0 where

@@ -15,8 +15,8 @@ use Rattle.task.proofs.Pieces.{each-covers}
 use Rattle.task.proofs.Sections.{covers-map, runs-whole, Over, over-start, over-more, over-stuck, over-end}
 use Rattle.item_check.specs.declared.Section.{Section}
 use Rattle.item_check.specs.declared.Section.the-variants.{Comments, Datatypes, Constants, Functions, KVars}
-use Rattle.inspect.specs.declared.Bounds.{Bounds}
-use Rattle.inspect.specs.Walk.{Inside, startOf, endOf}
+use Rattle.trailer.specs.declared.Bounds.{Bounds}
+use Rattle.trailer.specs.Bounds.{Inside, startOf, endOf}
 use Rattle.names.specs.declared.Kind.the-variants.{KVar, Constant, Function}
 use Rattle.names.specs.Table.{Symbol, entries}
 use Rattle.declared.specs.Symbols.{alone, together, named, datatypeSymbols, functionSymbols, kvarSymbols}

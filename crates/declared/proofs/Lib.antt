@@ -3,3 +3,4 @@ pub mod Collecting
 pub mod Gathering
 pub mod Counting
 pub mod Whole
+pub mod Ranges

@@ -7,11 +7,11 @@ use lib.ListN.{length, take, length-append}
 use Rattle.task.specs.Ast.{Task}
 use Rattle.task.specs.Decode.{got, datatype, constant, function, kvar, section}
 use Rattle.task.specs.Task.{bound}
-use Rattle.task.proofs.Opened.{Opened, opened}
+use Rattle.task.proofs.Opened.{Opened, opened-framed}
 use Rattle.task.proofs.Sections.{section-made}
 use Rattle.item_check.specs.declared.Section.the-variants.{Datatypes, Constants, Functions, KVars}
-use Rattle.inspect.specs.declared.Bounds.{Bounds}
-use Rattle.inspect.specs.Walk.{Inside, startOf, endOf}
+use Rattle.trailer.specs.declared.Bounds.{Bounds}
+use Rattle.trailer.specs.Bounds.{Inside, startOf, endOf}
 use Rattle.names.specs.declared.Kind.the-variants.{Constant}
 use Rattle.names.specs.Table.{Symbol, entries}
 use Rattle.names.specs.Change.{Blank}
@@ -99,7 +99,7 @@ pub declared : (file : List ℕ) (b : Bounds) (t0 t1 t2 t3 t4 : List ℕ) → Bl
 declared file b t0 t1 t2 t3 t4 k room g1 g2 g3 g4 =
     record {
       chained = g4 .chained;
-      are = λ task end e z. gathered file t0 t1 t2 t3 t4 k room task (opened file task end e) (rw z at g1) (rw z at g2) (rw z at g3) (rw z at g4);
+      are = λ task end f e z. gathered file t0 t1 t2 t3 t4 k room task (opened-framed file task end f e) (rw z at g1) (rw z at g2) (rw z at g3) (rw z at g4);
     }
 
 pub sample-symbols : SampleSymbols

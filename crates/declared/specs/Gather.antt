@@ -1,16 +1,17 @@
 -- What the walk over the declarations puts into a table.
 use mathlib.Core.Path.{_≡_}
+use mathlib.Core.Bool.{true}
 use mathlib.Core.List.{List, [], _∷_}
 use Prim.Native.Nat.{ℕ, _≤_}
 use lib.ListN.{length, take}
 use Rattle.task.specs.Ast.{Task}
 use Rattle.task.specs.Decode.{Res, got, Decoder, give, refusal, _▹_, datatype, constant, function, kvar, section}
 use Rattle.task.specs.Run.{Runs}
-use Rattle.task.specs.Task.{taskOf}
+use Rattle.task.specs.Task.{framed, decoded}
 use Rattle.item_check.specs.declared.Section.{Section}
 use Rattle.item_check.specs.declared.Section.the-variants.{Comments, Datatypes, Constants, Functions, KVars}
-use Rattle.inspect.specs.declared.Bounds.{Bounds}
-use Rattle.inspect.specs.Inspect.{boundsOf}
+use Rattle.trailer.specs.declared.Bounds.{Bounds}
+use Rattle.trailer.specs.Bounds.{boundsOf}
 use Rattle.names.specs.declared.Kind.the-variants.{Constant}
 use Rattle.names.specs.Table.{Symbol, entries, Chained, add}
 use Rattle.declared.specs.Symbols.{together, named, datatypeSymbols, functionSymbols, kvarSymbols, symbolsOf}
@@ -57,7 +58,7 @@ pub record Gathers (file : List ℕ) (i : Section) (at end : ℕ) (t u : List �
   pub words : length u ≡ length t
   pub are : (xs : List (List Symbol)) (q : ℕ) → section (itemSymbols i) (take end file) at ≡ got xs q → entries file u ≡ adds (length t) (entries file t) (together xs)
 
--- The table can be searched; and where the file holds a task, and b is where its sections are, the entries are the names that it declares.
+-- The table can be searched; and where the file decodes, and b is where its sections are, the entries are the names that its task declares.
 pub record Declared (file : List ℕ) (b : Bounds) (u : List ℕ) : Type 0 where
   pub chained : Chained file u
-  pub are : (t : Task) (end : ℕ) → taskOf file ≡ got t end → b ≡ boundsOf file → entries file u ≡ symbolsOf t
+  pub are : (t : Task) (end : ℕ) → framed file ≡ true → decoded file ≡ got t end → b ≡ boundsOf file → entries file u ≡ symbolsOf t

@@ -5,9 +5,10 @@ use mathlib.Core.Path.{_≡_}
 use mathlib.Core.Option.{none}
 use Rattle.smtlib.specs.Lexicon.{bytes}
 use Rattle.task.specs.Ast.{Sort, Sorts, Binder, Constraint, Constraints, DataCtor, DataDecl, FunDef, KVarDecl, Task}
+use Rattle.task.specs.Scope.{takenNames}
 use Rattle.names.specs.declared.Kind.{Kind}
 use Rattle.names.specs.declared.Kind.the-variants.{Datatype, KVar, Constructor, Field, Constant, Function}
-use Rattle.names.specs.Table.{numberOf, Symbol, symbol}
+use Rattle.names.specs.Table.{numberOf, Symbol, symbol, namesOf}
 
 -- a name of a kind, and nothing else
 abbrev pub alone : Kind → List ℕ → List Symbol
@@ -67,3 +68,7 @@ abbrev pub SampleSymbols : Type 0
 SampleSymbols =
     symbolsOf sample
     ≡ symbol 0 (bytes "d") ∷ symbol 2 (bytes "c") ∷ symbol 3 (bytes "f") ∷ symbol 4 (bytes "x") ∷ symbol 5 (bytes "g") ∷ symbol 1 (bytes "k") ∷ []
+
+-- Those of the kinds 1 to 5 are the names that no ForAll may have. (proofs/Ranges.antt: taken-are)
+abbrev pub TakenAre : Type 0
+TakenAre = (t : Task) → namesOf 1 5 (symbolsOf t) ≡ takenNames t

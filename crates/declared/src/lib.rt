@@ -1,16 +1,16 @@
 // The names that a task declares, as entries of a symbol table in the order of the file: datatypes with their constructors and fields,
 // constants, functions, KVars. The walkers read any bytes: what they add is told for pieces that decode.
-use inspect::Bounds;
 use item_check::Section;
 use names::Kind;
 use task::Number;
 use task::SpanRead;
 use task_check::Walked;
+use trailer::Bounds;
 ghost use mathlib.Core.List.{[], _∷_};
 ghost use Prim.Native.Nat.{_+_, _≤_};
 ghost use lib.ListN.{length};
 ghost use Rattle.task.specs.Decode.{many, binder, dataCtor, datatype, deepest};
-ghost use Rattle.inspect.specs.Walk.{Inside, startOf, endOf};
+ghost use Rattle.trailer.specs.Bounds.{Inside, startOf, endOf};
 ghost use Rattle.names.specs.Change.{Blank};
 ghost use Rattle.declared.specs.Symbols.{alone, named, fieldSymbols, ctorSymbols, ctorsSymbols, datatypeSymbols};
 ghost use Rattle.declared.specs.Gather.{Ready, Collects, nameIn, itemSymbols, themselves, Gathers, Declared};
@@ -145,8 +145,8 @@ fn push_items(file: &[u8], b: Bounds, section: Section, table: &mut [u16])
     requires { ⌜ Ready (now file) (now table) × Inside (now file) b ⌝ }
     ensures { λ r. ⌜ Gathers (now (file .entry)) section (startOf b section) (endOf b section) (now (table .entry)) (now (table .exit)) ⌝ }
 {
-    let at = inspect::start_of(b, section);
-    let end = inspect::end_of(b, section);
+    let at = trailer::start_of(b, section);
+    let end = trailer::end_of(b, section);
     push_section(file, at, end, section, table);
 }
 

@@ -7,15 +7,13 @@ use native.Mathlib.Omega.{arith}
 use lib.ListN.{length, take, drop}
 use Rattle.smtlib.proofs.Bools.{clash}
 use Rattle.task.specs.declared.Fault.{Fault}
-use Rattle.task.specs.declared.Number.{Number}
-use Rattle.task.specs.declared.Number.the-variants as number-is
 use Rattle.task.specs.declared.ConstraintNode.{ConstraintNode}
 use Rattle.task.specs.declared.ConstraintNode.the-variants as constraint-node
 use Rattle.task.specs.Ast.{Sort, Pred, Constraint, Constraints}
 use Rattle.task.specs.Decode.{Res, got, bind, number, many, counted, name, binder, decSort, decPred, decConstraint, deepest}
-use Rattle.task.specs.Fault.{each, binderFault, predFault}
+use Rattle.task.specs.Fault.{predFault}
 use Rattle.task.specs.Task.{literallyTrue}
-use Rattle.task.specs.Node.{numberOf, constraintOf, ConstraintAt}
+use Rattle.task.specs.Node.{constraintOf, ConstraintAt}
 use Rattle.task.proofs.Reading.{bind-got, got-refuse}
 use Rattle.task.proofs.Levels.{deeper}
 use Rattle.task_check.specs.declared.Walked.{Walked}
@@ -24,7 +22,7 @@ use Rattle.task_check.specs.Walk.{walked, readTrue}
 use Rattle.task_check.proofs.Rows.{refused-is, next-is}
 use Rattle.path.specs.Offsets.{entries}
 use Rattle.path.proofs.Entries.{leaves-fewer, leaves-pushed}
-use Rattle.constraint_check.specs.Around.{isHead, forAll}
+use Rattle.constraint_check.specs.Around.{isHead, headerFault, header, forAll}
 use Rattle.constraint_check.proofs.Names.{head-stands, name-inside}
 use Rattle.constraint_check.proofs.Constraints.{by-node, head-node}
 use Rattle.smt_text.specs.Encoder.{Encoder}
@@ -294,65 +292,39 @@ under-one : (enc : Encoder) (r : Range) (w : Writing) (fs : List ForAll) (f : Fo
 unfolding clauseParts flatten-constraint
 under-one enc r w fs f c = rw (binders-snoc fs f, guards-snoc fs f)
 
-module _ (enc : Encoder) (r : Range) (s os : List ℕ) (l at : ℕ) (pr : Progress) (xs : List ℕ) (w' : Writing) (t : ℕ) (v : Walked) (e : v ≡ walked binderFault (binder l s at)) where
-  -- one that is refused in its binder
-  pub for-all-unbound : (k : ℕ) → v ≡ walked-is.Refused k → PutsUnder (clauseParts enc) r (onPath s os) (forAll l s at) (writing pr xs) w' t
+module _ (enc : Encoder) (r : Range) (s os : List ℕ) (l at : ℕ) (pr : Progress) (xs : List ℕ) (w' : Writing) (t : ℕ) (v : Walked) (e : v ≡ walked headerFault (header l s at)) where
+  headed : (c : Constraint) (z : ℕ) (h : forAll l s at ≡ got c z) → header l s at ≡ got (record { binder = parts l s at c z h .all .binder; preds = parts l s at c z h .all .preds }) (parts l s at c z h .body)
+  headed c z h = let i = parts l s at c z h in rw (i .binds, i .numbers, i .holds)
+
+  -- one that is refused in its header
+  pub for-all-unheaded : (k : ℕ) → v ≡ walked-is.Refused k → PutsUnder (clauseParts enc) r (onPath s os) (forAll l s at) (writing pr xs) w' t
   unfolding PutsUnder Puts
-  for-all-unbound k e' fs q g c z f =
-      let i = parts l s at c z f in
-      got-refuse (sym (i .binds) ∙ refused-is binderFault (binder l s at) k (sym e' ∙ e))
+  for-all-unheaded k e' fs q g c z h = got-refuse (sym (headed c z h) ∙ refused-is headerFault (header l s at) k (sym e' ∙ e))
 
-  module _ (p : ℕ) (f : Fault) (e' : v ≡ walked-is.Next p f) (m : Number) (u : number 2 s p ≡ numberOf m) where
-    behind : (c : Constraint) (z : ℕ) (g : forAll l s at ≡ got c z) → parts l s at c z g .p ≡ p
-    behind c z g =
-        let i = parts l s at c z g in
-        let y : walked-is.Next p f ≡ walked-is.Next (i .p) (binderFault (i .all .binder)) = sym e' ∙ e ∙ ap (walked binderFault) (i .binds) in
-        cc
+  -- its body is walked with its offset on the path
+  pub for-all-puts : (b : ℕ) (x : Fault) (os' : List ℕ) (j : Moved) → l ≤ deepest → v ≡ walked-is.Next b x → os' ≡ os ++ at ∷ [] → To j b pr
+      → PutsUnder (clauseParts enc) r (onPath s os') (decConstraint l s (j .at)) (writing (j .progress) xs) w' t → PutsUnder (clauseParts enc) r (onPath s os) (forAll l s at) (writing pr xs) w' t
+  unfolding PutsUnder Puts forAllAt
+  for-all-puts b x os' j d e' o ej i fs y g c z h =
+      let a = parts l s at c z h in
+      let eb : walked-is.Next b x ≡ walked-is.Next (a .body) (headerFault (record { binder = a .all .binder; preds = a .all .preds })) = sym e' ∙ e ∙ ap (walked headerFault) (headed c z h) in
+      let e1 : b ≡ a .body = cc in
+      let stands : forAllAt s at ≡ got (a .all) 0 =
+      rw (
+        deeper .binders l deepest d .agrees s at (a .all .binder) (a .p) (a .binds),
+        a .numbers,
+        deeper .preds l deepest d (a .n) .agrees s (a .q) (a .all .preds) (a .body) (a .holds),
+      ) in
+      let on : onPath s os' ≡ got (fs ++ a .all ∷ []) 0 = ap (onPath s) o ∙ on-snoc s os at fs y (a .all) g stands in
+      let n = i (fs ++ a .all ∷ []) 0 on (a .inner) z (rw (ej .0, e1) (a .rest)) in
+      (n .0, n .1 ∙ rw (ej .1) (under-one enc r (writing pr xs) fs (a .all) (a .inner) ∙ ap (λ (k : Constraint). puts r (writing pr xs) (clauseParts enc fs k)) (a .is)))
 
-    -- in the number of its predicates
-    pub for-all-uncounted : m ≡ number-is.Refused → PutsUnder (clauseParts enc) r (onPath s os) (forAll l s at) (writing pr xs) w' t
-    unfolding PutsUnder Puts
-    for-all-uncounted u' fs q g c z h =
-        let i = parts l s at c z h in
-        got-refuse (sym (i .numbers) ∙ ap (number 2 s) (behind c z h) ∙ u ∙ ap numberOf u')
-
-    module _ (n q : ℕ) (u' : m ≡ number-is.Value n q) (v' : Walked) (k : v' ≡ walked (each predFault) (many [] _∷_ (decPred l) n s q)) where
-      held : (c : Constraint) (z : ℕ) (h : forAll l s at ≡ got c z) → many [] _∷_ (decPred l) n s q ≡ got (parts l s at c z h .all .preds) (parts l s at c z h .body)
-      held c z h =
-          let i = parts l s at c z h in
-          let y : got n q ≡ got (i .n) (i .q) = sym (u ∙ ap numberOf u') ∙ ap (number 2 s) (sym (behind c z h)) ∙ i .numbers in
-          let en : n ≡ i .n = cc in
-          let eq : q ≡ i .q = cc in
-          rw (en, eq) (i .holds)
-
-      -- in these
-      pub for-all-unheld : (j : ℕ) → v' ≡ walked-is.Refused j → PutsUnder (clauseParts enc) r (onPath s os) (forAll l s at) (writing pr xs) w' t
-      unfolding PutsUnder Puts
-      for-all-unheld j k' fs y g c z h = got-refuse (sym (held c z h) ∙ refused-is (each predFault) (many [] _∷_ (decPred l) n s q) j (sym k' ∙ k))
-
-      -- its body is walked with its offset on the path
-      pub for-all-puts : (b : ℕ) (x : Fault) (os' : List ℕ) (j : Moved) → l ≤ deepest → v' ≡ walked-is.Next b x → os' ≡ os ++ at ∷ [] → To j b pr
-          → PutsUnder (clauseParts enc) r (onPath s os') (decConstraint l s (j .at)) (writing (j .progress) xs) w' t → PutsUnder (clauseParts enc) r (onPath s os) (forAll l s at) (writing pr xs) w' t
-      unfolding PutsUnder Puts forAllAt
-      for-all-puts b x os' j d k' o ej i fs y g c z h =
-          let a = parts l s at c z h in
-          let eb : walked-is.Next b x ≡ walked-is.Next (a .body) (each predFault (a .all .preds)) = sym k' ∙ k ∙ ap (walked (each predFault)) (held c z h) in
-          let e1 : b ≡ a .body = cc in
-          let stands : forAllAt s at ≡ got (a .all) 0 =
-          rw (
-            deeper .binders l deepest d .agrees s at (a .all .binder) (a .p) (a .binds),
-            a .numbers,
-            deeper .preds l deepest d (a .n) .agrees s (a .q) (a .all .preds) (a .body) (a .holds),
-          ) in
-          let on : onPath s os' ≡ got (fs ++ a .all ∷ []) 0 = ap (onPath s) o ∙ on-snoc s os at fs y (a .all) g stands in
-          let n = i (fs ++ a .all ∷ []) 0 on (a .inner) z (rw (ej .0, e1) (a .rest)) in
-          (n .0, n .1 ∙ rw (ej .1) (under-one enc r (writing pr xs) fs (a .all) (a .inner) ∙ ap (λ (k : Constraint). puts r (writing pr xs) (clauseParts enc fs k)) (a .is)))
-
--- a binder that was read has an offset of two bytes
-pub binder-offset : (l : ℕ) (s : List ℕ) (at : ℕ) (v : Walked) (q : ℕ) (f : Fault) → v ≡ walked binderFault (binder l s at) → v ≡ walked-is.Next q f → length s < 65536 → at < 65536
-binder-offset l s at v q f e e' h =
-    let y = next-is binderFault (binder l s at) q f (sym e' ∙ e) in
-    let n = bind-got (name s at) _ (y .value) q (y .is) in
+-- a header that was read has an offset of two bytes
+pub header-offset : (l : ℕ) (s : List ℕ) (at : ℕ) (v : Walked) (q : ℕ) (f : Fault) → v ≡ walked headerFault (header l s at) → v ≡ walked-is.Next q f → length s < 65536 → at < 65536
+header-offset l s at v q f e e' h =
+    let y = next-is headerFault (header l s at) q f (sym e' ∙ e) in
+    let b = bind-got (binder l s at) _ (y .value) q (y .is) in
+    let n = bind-got (name s at) _ (b .value) (b .next) (b .first) in
     let g = name-inside s at (n .value) (n .next) (n .first) in
     omega arith
 

@@ -4,7 +4,6 @@ use assertion::Kept;
 use output::Out;
 use path::Path;
 use task::ConstraintNode;
-use task::Number;
 use task_check::Walked;
 ghost use mathlib.Core.Bool.{_&&_};
 ghost use mathlib.Core.List.{[], _∷_, _++_};
@@ -379,16 +378,8 @@ fn flatten_for_all(
     ensures { λ r. ⌜ Stays (around .kept) (now (text .entry)) (now (text .exit)) ⌝ }
 {
     let at = from.at;
-    let binder = task_check::check_binder(s, at, levels);
-    let Walked::Next(q, _) = binder else {
-        return from;
-    };
-    let number = task::number_at(s, q, 2);
-    let Number::Value(n, first) = number else {
-        return from;
-    };
-    let preds = task_check::check_preds(s, first, n, levels);
-    let Walked::Next(body, _) = preds else {
+    let header = constraint_check::check_header(s, at, levels);
+    let Walked::Next(body, _) = header else {
         return from;
     };
     let kept = assertion::extend(s, at, enc, text, around.kept);

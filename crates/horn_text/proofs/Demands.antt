@@ -6,20 +6,17 @@ use mathlib.Core.Logic.{_↔_, _⊎_, inl, inr, ⊎-elim}
 use mathlib.Core.List.{List, [], _++_}
 use native.Mathlib.Nat.{le-refl}
 use native.Mathlib.Omega.{arith}
-use lib.Dec.{T, leb, ltb, eqb, ltb→lt, nltb→le, nleb→lt}
+use lib.Dec.{T, leb, ltb, ltb→lt, nltb→le, nleb→lt}
 use lib.ListN.{length, take, drop, getD, drop-of-length-le}
 use lib.Seq.{take-append-le, take-append-seam, drop-append-seam, drop-cons}
 use borrow.Author.Tests.{le-leb, lt-leb, lt-ltb, le-ltb}
 use Rattle.smtlib.specs.Theorems.{ReadAtCuts}
 use Rattle.smtlib.proofs.Bools.{clash}
 use Rattle.smtlib.proofs.Cut.{unique}
-use Rattle.task.specs.declared.Fault.{Fault}
-use Rattle.task.specs.declared.Fault.the-variants.{Text, NoConstructors, BitVecWidth, Unqualified, WKVar, Arity, Shadowed, Sound}
 use Rattle.task.specs.Ast.{Task}
-use Rattle.task.specs.Decode.{Res, got, refuse, bind}
-use Rattle.task.specs.Fault.{refusalOf, taskFault}
-use Rattle.task.specs.Task.{framed, decoded, judged, taskOf}
-use Rattle.task.proofs.Reading.{bind-got, got-refuse}
+use Rattle.task.specs.Decode.{Res, got, refuse}
+use Rattle.task.specs.Task.{taskOf}
+use Rattle.task.proofs.Reading.{got-refuse}
 use Rattle.horn_text.specs.Script.{join, partsOf, scriptOf}
 use Rattle.horn_text.specs.Commands.{commandsOf}
 use Rattle.horn_text.specs.Answers.{Answer, refused, fitted, surveyOf, surveyAnswer, partOf, partAnswer, partLaid, partBuffer, scriptFitted, scriptAnswer, scriptLaid, scriptBuffer}
@@ -27,33 +24,10 @@ use Rattle.horn_text.specs.Demand.{Accepted, Refused, Demand1, nth, part
 use Rattle.horn_text.proofs.Readings.{script-reading, script-read, first-assertions, assertions-number}
 use Rattle.horn_text.proofs.Places.{clauses-placed, clauses-number, parts-number}
 use Rattle.horn_text.proofs.Lines.{parts-lined}
-use Rattle.task.proofs.Opened.{cond-got}
+use Rattle.task.proofs.Scoping.{task-sound}
 use Rattle.horn_text.proofs.Lengths.{script-short}
 use Rattle.horn_text.proofs.Refusals.{refusals}
 use Rattle.horn_text.proofs.Returned.{script-returns}
-
--- ACCEPTED FILES
-
--- only what is sound is not refused
-fault-sound : {A : Type 0} (f : Fault) (x : Res A) (a : A) (p : ℕ) → cond (eqb (refusalOf f) 0) x (refuse (refusalOf f)) ≡ got a p → f ≡ Sound
-fault-sound Text x a p e = got-refuse (sym e)
-fault-sound NoConstructors x a p e = got-refuse (sym e)
-fault-sound BitVecWidth x a p e = got-refuse (sym e)
-fault-sound Unqualified x a p e = got-refuse (sym e)
-fault-sound WKVar x a p e = got-refuse (sym e)
-fault-sound Arity x a p e = got-refuse (sym e)
-fault-sound Shadowed x a p e = got-refuse (sym e)
-fault-sound Sound x a p e = refl
-
--- the task of a file is without fault
-task-sound : (file : List ℕ) (t : Task) (end : ℕ) → taskOf file ≡ got t end → taskFault t ≡ Sound
-unfolding taskOf judged
-task-sound file t end e =
-    let x = bind-got (decoded file) judged t end (cond-got (framed file) (bind (decoded file) judged) 1 e) in
-    let f = taskFault (x .value) in
-    let z = cond-got (eqb (refusalOf f) 0) (got (x .value) (x .next)) (refusalOf f) (x .then) in
-    let y : x .value ≡ t = cc in
-    ap taskFault (sym y) ∙ fault-sound f (got (x .value) (x .next)) t end (x .then)
 
 -- DEMAND 1
 

@@ -7,11 +7,11 @@ use lib.Dec.{T, leb, eqb}
 use lib.ListN.{length, take, getD}
 use Rattle.smtlib.specs.Lexicon.{any}
 use Rattle.task.specs.declared.Fault.{Fault}
-use Rattle.task.specs.declared.Fault.the-variants.{Text, NoConstructors, BitVecWidth, Unqualified, WKVar, Arity, Shadowed, Sound}
+use Rattle.task.specs.declared.Fault.the-variants.{Text, NoConstructors, BitVecWidth, Unqualified, WKVar, Arity, Shadowed, Clash, Sound}
 use Rattle.task.specs.Ast.{Sorts, Exprs, Constraints}
 use Rattle.task.specs.Decode.{Res, got, refuse, bind, Decoder, give, refusal, _▹_, raw, number, many, counted, name, text, coded, flag, sortForms, decSort, binder, binOps, binRels, quantifiers, thyFuncs, given, exprForms, decExpr, decPred, decConstraint, deepest, datatype, body, function, kvar, items, section}
-use Rattle.task.specs.Fault.{refusalOf, taskFault}
-use Rattle.task.specs.Task.{bound, framed, within, decoded, judged, taskOf}
+use Rattle.task.specs.Fault.{refusalOf}
+use Rattle.task.specs.Task.{bound, framed, within, decoded, firstFault, judged, taskOf}
 use Rattle.task.proofs.Reading.{got-refuse}
 use Rattle.horn_text.specs.Answers.{surveyNumbers}
 
@@ -252,9 +252,10 @@ fault-numbered a p Unqualified = refused tt
 fault-numbered a p WKVar = refused tt
 fault-numbered a p Arity = refused tt
 fault-numbered a p Shadowed = refused tt
+fault-numbered a p Clash = refused tt
 fault-numbered a p Sound = fine
 
 pub refusals : (file : List ℕ) (n : ℕ) → taskOf file ≡ refuse n → T (any (eqb n) surveyNumbers)
 unfolding taskOf judged
 refusals file n e =
-    either (framed file) (follows (decoded-numbered file) (λ t p. fault-numbered t p (taskFault t))) (refused tt) .numbered n e
+    either (framed file) (follows (decoded-numbered file) (λ t p. fault-numbered t p (firstFault t))) (refused tt) .numbered n e

@@ -2,14 +2,16 @@
 -- judging. docs/REFUSALS.md shows the first file of each number.
 use Prim.Native.Nat.{ℕ, suc, min}
 use mathlib.Core.Path.{_≡_}
-use mathlib.Core.Bool.{cond}
+use Prim.Native.String.{String}
+use mathlib.Core.Bool.{Bool, true, false, cond}
 use mathlib.Core.List.{List, [], _∷_, _++_, map}
-use lib.Dec.{eqb}
+use lib.Dec.{T, eqb}
 use lib.ListN.{replicate}
 use Rattle.smtlib.specs.Lexicon.{bytes, any}
 use Rattle.task.specs.declared.Fault.{Fault}
 use Rattle.task.specs.Fault.{refusalOf, lower}
-use Rattle.horn_text.specs.Answers.{refused, surveyPlaces, surveyNumbers, surveyAnswer}
+use Rattle.task.specs.Returns.{every}
+use Rattle.horn_text.specs.Answers.{Answer, values, refused, surveyPlaces, surveyNumbers, surveyAnswer}
 use Rattle.horn_text.specs.Table.{zeros, partCall, scriptCall, offset, fileWith, fileOf, constraintOnly, named, var, string, exprPred, head, trueHead}
 
 -- FILES
@@ -62,6 +64,32 @@ headOf e = constraintOnly (head (exprPred e))
 abbrev pub oneArgument : List ℕ
 oneArgument = named "f" ++ 0 ∷ 0 ∷ 0 ∷ 0 ∷ 0 ∷ 1 ∷ 1 ∷ 0 ∷ named "x" ++ 1 ∷ 1 ∷ []
 
+-- the constant lim of sort Int
+abbrev pub limit : List ℕ
+limit = named "lim" ++ 0 ∷ []
+
+-- ForAll x Int with the guard x < lim, and under it ForAll lim Int with the head lim >= x
+abbrev pub merge : List ℕ
+merge =
+    2 ∷ named "x" ++ 0 ∷ 1 ∷ 0 ∷ exprPred (10 ∷ 4 ∷ var "x" ++ var "lim")
+    ++ 2 ∷ named "lim" ++ 0 ∷ 0 ∷ 0 ∷ head (exprPred (10 ∷ 3 ∷ var "lim" ++ var "x"))
+
+-- a datatype with a constructor of one field of sort Int
+abbrev pub datatypeOf : String → String → String → List ℕ
+datatypeOf d c f = named d ++ 0 ∷ 0 ∷ 1 ∷ 0 ∷ named c ++ 1 ∷ 0 ∷ named f ++ 0 ∷ []
+
+-- a function without parameters from Int to Int, with its argument as its body
+abbrev pub identity : String → String → List ℕ
+identity f x = named f ++ 0 ∷ 0 ∷ 1 ∷ 0 ∷ 0 ∷ 0 ∷ 1 ∷ 1 ∷ 0 ∷ named x ++ var x
+
+-- a KVar without arguments
+abbrev pub kvarOf : String → List ℕ
+kvarOf k = named k ++ 0 ∷ 0 ∷ []
+
+-- ForAll x Int over this expression as its head
+abbrev pub underX : List ℕ → List ℕ
+underX e = forAllX (head (exprPred e))
+
 -- a number, and a file that is to get it
 abbrev pub Row : Type 0
 Row = ℕ × List ℕ
@@ -72,7 +100,8 @@ Get rows = map (λ r. surveyAnswer (r .1)) rows ≡ map (λ r. refused (r .0)) r
 
 -- A file for each number that survey can answer. 1: 27 zero bytes. 2: 24 zero bytes and the mark. 3: an expression head of 254 Nots, whose last
 -- operand is due at level 257. 4: a comment with a line feed. 5: a datatype without constructors. 12: a BitVec of Int. 13: a bare SetEmpty as a
--- head. 14: a WKVar as a head. 6: a body with an argument too many. 7: a ForAll named like the one around it.
+-- head. 14: a WKVar as a head. 6: a body with an argument too many. 7: a ForAll named like the one around it. 15: the merge task of W-207, with the
+-- constant lim, a guard that speaks of it, and a ForAll lim below.
 abbrev pub refusedFiles : List Row
 refusedFiles =
     (1, zeros 27) ∷
@@ -85,6 +114,7 @@ refusedFiles =
     (14, headOf wkVar) ∷
     (6, fileWith [] [] [] oneArgument [] nothing) ∷
     (7, constraintOnly (forAllX (forAllX nothing))) ∷
+    (15, fileOf [] limit merge) ∷
     []
 
 -- Further files of forms that have no text (W-206). 12: a BvSize that is no BitVec's, a BitVec of a BitVec, and three that are never written: a BvSize
@@ -113,6 +143,33 @@ textFiles =
     (4, headOf (var "a\"b")) ∷
     []
 
+-- Files with a ForAll x that has a declared name (W-207): without heads under it that of a constant, of a function, of a constructor, of a field and of a
+-- KVar; and one behind another member of a Conj. With the constant x a repeat of ForAll x is judged first.
+abbrev pub clashFiles : List Row
+clashFiles =
+    (15, fileOf [] (named "x" ++ 0 ∷ []) (forAllX nothing)) ∷
+    (15, fileWith [] [] [] (identity "x" "a") [] (forAllX nothing)) ∷
+    (15, fileOf (datatypeOf "d" "x" "f") [] (forAllX nothing)) ∷
+    (15, fileOf (datatypeOf "d" "c" "x") [] (forAllX nothing)) ∷
+    (15, fileWith [] [] [] [] (kvarOf "x") (forAllX nothing)) ∷
+    (15, fileOf [] (named "x" ++ 0 ∷ []) (1 ∷ 2 ∷ 0 ∷ nothing ++ forAllX nothing)) ∷
+    (7, fileOf [] (named "x" ++ 0 ∷ []) (forAllX (forAllX nothing))) ∷
+    []
+
+-- And files with a ForAll x that are not refused: the name is that of a datatype, of a function's argument, of a Let and of a Quantifier.
+abbrev pub fineFiles : List (List ℕ)
+fineFiles =
+    fileOf (datatypeOf "x" "c" "f") [] (forAllX nothing) ∷
+    fileWith [] [] [] (identity "f" "x") [] (forAllX nothing) ∷
+    constraintOnly (underX (16 ∷ named "x" ++ var "x" ++ var "x")) ∷
+    constraintOnly (underX (20 ∷ 1 ∷ 1 ∷ 0 ∷ named "x" ++ 0 ∷ var "x")) ∷
+    []
+
+-- survey answers with values
+abbrev pub accepts : Answer → Bool
+accepts (values vs) = true
+accepts (refused n) = false
+
 -- THE ORDER
 
 -- the place of a number on the list; a number that is not on it has the place behind all
@@ -134,6 +191,9 @@ pub record Numbers : Type 0 where
   -- so does each of the further files
   pub forms : Get formFiles
   pub texts : Get textFiles
+  pub clashes : Get clashFiles
+  -- and these get none
+  pub fine : T (every (λ f. accepts (surveyAnswer f)) fineFiles)
   -- the faults are judged in the order of the list: of two the one whose number has the place further in front
   pub order : (f g : Fault) → placeOf (lower f g) ≡ min (placeOf f) (placeOf g)
   -- there is no part 3 of the smallest file

@@ -1,3 +1,3 @@
 pub mod Sections
-pub mod Trailers
 pub mod Whole
+pub mod Naming

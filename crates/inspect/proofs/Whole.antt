@@ -15,22 +15,23 @@ use Rattle.task.specs.declared.Fault.{Fault}
 use Rattle.task.specs.Ast.{DataDecl, Binder, FunDef, KVarDecl, Constraint, Task}
 use Rattle.task.specs.Decode.{Res, got, refuse, bind, section, comment, datatype, constant, function, kvar, decConstraint, deepest}
 use Rattle.task.specs.Fault.{lower, each, refusalOf, textFault, datatypeFault, binderFault, functionFault, kvarFault, constraintFault, taskFault}
-use Rattle.task.specs.Task.{bound, framed, within, decoded, judged, taskOf, headsOf}
+use Rattle.task.specs.Task.{bound, framed, within, decoded, judgedBy, headsOf}
 use Rattle.task.proofs.Judging.{lower-assoc}
 use Rattle.constraint_check.specs.declared.Counted.{Counted}
 use Rattle.constraint_check.specs.Tally.{tally}
 use Rattle.item_check.specs.declared.Section.the-variants.{Comments, Datatypes, Constants, Functions, KVars}
 use Rattle.item_check.specs.Items.{itemWalk}
-use Rattle.inspect.specs.declared.Bounds.{Bounds}
-use Rattle.inspect.specs.declared.Trailer.{Trailer}
-use Rattle.inspect.specs.declared.Trailer.the-variants as trailer-is
+use Rattle.trailer.specs.declared.Bounds.{Bounds}
+use Rattle.trailer.specs.declared.Trailer.{Trailer}
+use Rattle.trailer.specs.declared.Trailer.the-variants as trailer-is
+use Rattle.trailer.specs.Bounds.{boundsOf, Inside, trailerOf}
+use Rattle.trailer.proofs.Trailers.{framed-is, trailer-none, trailer-read}
 use Rattle.inspect.specs.declared.Listed.{Listed}
 use Rattle.inspect.specs.declared.Listed.the-variants as listed-is
 use Rattle.inspect.specs.declared.Inspected.{Inspected}
 use Rattle.inspect.specs.declared.Inspected.the-variants as inspected-is
-use Rattle.inspect.specs.Inspect.{boundsOf, inspectedOf}
-use Rattle.inspect.specs.Walk.{join, walkItems, listed, uncounted, sectionOf, itemsOf, Inside, trailerOf, judge, conclude, finish}
-use Rattle.inspect.proofs.Trailers.{framed-is, trailer-none, trailer-read}
+use Rattle.inspect.specs.Inspect.{inspectedOf}
+use Rattle.inspect.specs.Walk.{join, walkItems, listed, uncounted, sectionOf, itemsOf, judge, conclude, finish, soundOf}
 use Rattle.inspect.proofs.Sections.{listed-walks, items-most}
 
 -- comments are not counted
@@ -142,8 +143,7 @@ module _ (file : List ℕ) where
   count a b c d = sym (zero-add (a + (b + (c + d))) ∙ sym (add-assoc a b (c + d)) ∙ sym (add-assoc (a + b) c d))
 
   judges : (t : Task) (end n h : ℕ) (f : Fault) → taskFault t ≡ f → (n ≡ length (t .datatypes) + length (t .constants) + length (t .functions) + length (t .kvars)) → h ≡ headsOf (t .constraint)
-      → inspectedOf file (judged t end) ≡ judge (boundsOf file) n h f
-  unfolding judged
+      → inspectedOf file (judgedBy taskFault t end) ≡ judge (boundsOf file) n h f
   judges t end n h f e u u' = rw (e, u, u') (go (eqb (refusalOf f) 0))
     where
       go : (b : Bool) → inspectedOf file (cond b (got t end) (refuse (refusalOf f))) ≡ cond b (inspected-is.Task (boundsOf file) (length (t .datatypes) + length (t .constants) + length (t .functions) + length (t .kvars)) (headsOf (t .constraint))) (inspected-is.Refused (refusalOf f))
@@ -151,7 +151,7 @@ module _ (file : List ℕ) where
       go false = refl
 
   chains : (x0 : Res (List (List ℕ))) (x1 : Res (List DataDecl)) (x2 : Res (List Binder)) (x3 : Res (List FunDef)) (x4 : Res (List KVarDecl)) (x5 : Res Constraint)
-      → inspectedOf file (bind (chain x0 x1 x2 x3 x4 x5) judged) ≡ finish (boundsOf file) (parts x0 x1 x2 x3 x4) (tally (constraintFault []) headsOf x5)
+      → inspectedOf file (bind (chain x0 x1 x2 x3 x4 x5) (judgedBy taskFault)) ≡ finish (boundsOf file) (parts x0 x1 x2 x3 x4) (tally (constraintFault []) headsOf x5)
   unfolding chain parts taskFault
   chains (refuse k) x1 x2 x3 x4 x5 = refl
   chains (got a p) (refuse k) x2 x3 x4 x5 = refl
@@ -167,7 +167,7 @@ module _ (file : List ℕ) where
       fault : Fault
       fault = lower (lower (each textFault a) (lower (each datatypeFault b) (lower (each binderFault c) (lower (each functionFault d) (each kvarFault e))))) (constraintFault [] f)
 
-      go : (t : Bool) → inspectedOf file (bind (cond t (got whole v) (refuse 2)) judged)
+      go : (t : Bool) → inspectedOf file (bind (cond t (got whole v) (refuse 2)) (judgedBy taskFault))
           ≡ cond t (judge (boundsOf file) (0 + (length b + (length c + (length d + length e)))) (headsOf f) fault) (inspected-is.Refused 2)
       go true = judges whole v (0 + (length b + (length c + (length d + length e)))) (headsOf f) fault
           (regroup (each textFault a) (each datatypeFault b) (each binderFault c) (each functionFault d) (each kvarFault e) (constraintFault [] f))
@@ -175,41 +175,41 @@ module _ (file : List ℕ) where
       go false = refl
 
   pub whole-is : framed file ≡ true
-      → inspectedOf file (taskOf file) ≡ finish (boundsOf file) (itemsOf file (boundsOf file)) (tally (constraintFault []) headsOf (within file 5 (decConstraint deepest)))
-  unfolding taskOf decoded chain parts sectionOf
+      → inspectedOf file (soundOf file) ≡ finish (boundsOf file) (itemsOf file (boundsOf file)) (tally (constraintFault []) headsOf (within file 5 (decConstraint deepest)))
+  unfolding soundOf decoded chain parts sectionOf
   whole-is e =
       rw e (chains (within file 0 (section comment)) (within file 1 (section datatype)) (within file 2 (section constant)) (within file 3 (section function)) (within file 4 (section kvar)) (within file 5 (decConstraint deepest)))
 
-  pub unframed : framed file ≡ false → inspected-is.Refused 1 ≡ inspectedOf file (taskOf file)
-  unfolding taskOf
+  pub unframed : framed file ≡ false → inspected-is.Refused 1 ≡ inspectedOf file (soundOf file)
+  unfolding soundOf
   unframed e = rw e
 
   module _ (r : Trailer) (e : r ≡ trailerOf file) where
-    pub inspect-unframed : r ≡ trailer-is.Refused → inspected-is.Refused 1 ≡ inspectedOf file (taskOf file)
-    inspect-unframed e' = unframed (trailer-none file r e e')
+    pub pieces-unframed : r ≡ trailer-is.Refused → inspected-is.Refused 1 ≡ inspectedOf file (soundOf file)
+    pieces-unframed e' = unframed (trailer-none file r e e')
 
     module _ (b : Bounds) (e' : r ≡ trailer-is.Read b) where
-      pub inspect-inside : Inside file b
-      inspect-inside = let h = trailer-read file r e b e' in subst (Inside file) (sym (h .1)) (framed-is file (h .0))
+      pub pieces-inside : Inside file b
+      pieces-inside = let h = trailer-read file r e b e' in subst (Inside file) (sym (h .1)) (framed-is file (h .0))
 
       -- two bytes hold each offset of the constraint
-      pub inspect-short : length (take (b .end) file) < 65536
-      inspect-short = let m = inspect-inside .most in let l = length-take (b .end) file in omega arith
+      pub pieces-short : length (take (b .end) file) < 65536
+      pieces-short = let m = pieces-inside .most in let l = length-take (b .end) file in omega arith
 
       by-parts : (l : Listed) (c : Counted) → l ≡ itemsOf file b → c ≡ tally (constraintFault []) headsOf (decConstraint deepest (take (b .end) file) (b .constraint))
-          → finish b l c ≡ inspectedOf file (taskOf file)
+          → finish b l c ≡ inspectedOf file (soundOf file)
       by-parts l c u u' =
           let h = trailer-read file r e b e' in
           ap (λ (x : Listed). finish b x c) u ∙ ap (finish b (itemsOf file b)) u'
           ∙ ap (λ (z : Bounds). finish z (itemsOf file z) (tally (constraintFault []) headsOf (decConstraint deepest (take (z .end) file) (z .constraint)))) (h .1)
           ∙ sym (whole-is (h .0))
 
-      pub inspect-refused : (l : Listed) (k : ℕ) → l ≡ itemsOf file b → l ≡ listed-is.Refused k → inspected-is.Refused k ≡ inspectedOf file (taskOf file)
-      inspect-refused l k u u' =
+      pub pieces-refused : (l : Listed) (k : ℕ) → l ≡ itemsOf file b → l ≡ listed-is.Refused k → inspected-is.Refused k ≡ inspectedOf file (soundOf file)
+      pieces-refused l k u u' =
           let c = tally (constraintFault []) headsOf (decConstraint deepest (take (b .end) file) (b .constraint)) in
           sym (ap (λ (x : Listed). finish b x c) u') ∙ by-parts l c u refl
 
-      pub inspect-concludes : (l : Listed) (n : ℕ) (f : Fault) (c : Counted) (w : Inspected) → l ≡ itemsOf file b → l ≡ listed-is.Items n f
+      pub pieces-concludes : (l : Listed) (n : ℕ) (f : Fault) (c : Counted) (w : Inspected) → l ≡ itemsOf file b → l ≡ listed-is.Items n f
           → c ≡ tally (constraintFault []) headsOf (decConstraint deepest (take (b .end) file) (b .constraint)) → w ≡ conclude b n f (c .walked) (c .heads)
-          → w ≡ inspectedOf file (taskOf file)
-      inspect-concludes l n f c w u u' k m = m ∙ sym (ap (λ (x : Listed). finish b x c) u') ∙ by-parts l c u k
+          → w ≡ inspectedOf file (soundOf file)
+      pieces-concludes l n f c w u u' k m = m ∙ sym (ap (λ (x : Listed). finish b x c) u') ∙ by-parts l c u k

@@ -1,37 +1,25 @@
 -- What the steps of `inspect` answer. Only contracts of inner functions speak of them.
-use Prim.Native.Nat.{ℕ, zero, suc, _+_, _≤_}
-use mathlib.Core.Bool.{Bool, cond, _&&_}
+use Prim.Native.Nat.{ℕ, zero, suc, _+_}
+use mathlib.Core.Bool.{cond}
 use mathlib.Core.List.{List}
 use lib.Dec.{leb, eqb}
 use lib.ListN.{length, take}
 use Rattle.task.specs.declared.Fault.{Fault}
 use Rattle.task.specs.declared.Fault.the-variants.{Sound}
-use Rattle.task.specs.Decode.{Res, got, refuse, section, comment, datatype, constant, function, kvar}
-use Rattle.task.specs.Fault.{lower, each, refusalOf, textFault, datatypeFault, binderFault, functionFault, kvarFault}
-use Rattle.task.specs.Task.{framed}
+use Rattle.task.specs.Ast.{Task}
+use Rattle.task.specs.Decode.{Res, got, refuse, bind, section, comment, datatype, constant, function, kvar}
+use Rattle.task.specs.Fault.{lower, each, refusalOf, textFault, datatypeFault, binderFault, functionFault, kvarFault, taskFault}
+use Rattle.task.specs.Task.{framed, decoded, judgedBy}
 use Rattle.task_check.specs.declared.Walked.{Walked}
 use Rattle.task_check.specs.declared.Walked.the-variants as walked-is
 use Rattle.constraint_check.specs.declared.Counted.{Counted}
 use Rattle.item_check.specs.declared.Section.{Section}
 use Rattle.item_check.specs.declared.Section.the-variants.{Comments, Datatypes, Constants, Functions, KVars}
-use Rattle.inspect.specs.declared.Bounds.{Bounds}
-use Rattle.inspect.specs.declared.Trailer.{Trailer}
-use Rattle.inspect.specs.declared.Trailer.the-variants as trailer-is
+use Rattle.trailer.specs.declared.Bounds.{Bounds}
 use Rattle.inspect.specs.declared.Listed.{Listed}
 use Rattle.inspect.specs.declared.Listed.the-variants as listed-is
 use Rattle.inspect.specs.declared.Inspected.{Inspected}
 use Rattle.inspect.specs.declared.Inspected.the-variants as inspected-is
-use Rattle.inspect.specs.Inspect.{boundsOf}
-
--- the first is 0 and none is below the one before
-abbrev pub ordered : Bounds → Bool
-ordered b =
-    eqb (b .comments) 0 && leb (b .comments) (b .datatypes) && leb (b .datatypes) (b .constants) && leb (b .constants) (b .functions)
-    && leb (b .functions) (b .kvars) && leb (b .kvars) (b .constraint) && leb (b .constraint) (b .end)
-
--- where the sections begin, if the file is framed
-abbrev pub trailerOf : List ℕ → Trailer
-trailerOf file = cond (framed file) (trailer-is.Read (boundsOf file)) trailer-is.Refused
 
 -- items counted and judged before others
 abbrev pub join : Listed → Listed → Listed
@@ -75,32 +63,6 @@ itemsOf file b =
     (join (sectionOf Constants (take (b .functions) file) (b .constants))
     (join (sectionOf Functions (take (b .kvars) file) (b .functions)) (sectionOf KVars (take (b .constraint) file) (b .kvars)))))
 
--- the sections stand inside the file, and it is not too long
-pub record Inside (file : List ℕ) (b : Bounds) : Type 0 where
-  pub most : length file ≤ 60000
-  pub datatypes : b .datatypes ≤ length file
-  pub constants : b .constants ≤ length file
-  pub functions : b .functions ≤ length file
-  pub kvars : b .kvars ≤ length file
-  pub constraint : b .constraint ≤ length file
-  pub end : b .end ≤ length file
-
--- where a section begins
-abbrev pub startOf : Bounds → Section → ℕ
-startOf b Comments = b .comments
-startOf b Datatypes = b .datatypes
-startOf b Constants = b .constants
-startOf b Functions = b .functions
-startOf b KVars = b .kvars
-
--- where it ends
-abbrev pub endOf : Bounds → Section → ℕ
-endOf b Comments = b .datatypes
-endOf b Datatypes = b .constants
-endOf b Constants = b .functions
-endOf b Functions = b .kvars
-endOf b KVars = b .constraint
-
 -- the answer by the fault that is judged first
 abbrev pub judge : Bounds → ℕ → ℕ → Fault → Inspected
 judge b declarations heads f = cond (eqb (refusalOf f) 0) (inspected-is.Task b declarations heads) (inspected-is.Refused (refusalOf f))
@@ -114,3 +76,7 @@ conclude b n f (walked-is.Refused k) heads = inspected-is.Refused k
 abbrev pub finish : Bounds → Listed → Counted → Inspected
 finish b (listed-is.Items n f) c = conclude b n f (c .walked) (c .heads)
 finish b (listed-is.Refused k) c = inspected-is.Refused k
+
+-- the task that a file holds by the faults of its pieces: its names are not judged
+unfoldable pub soundOf : List ℕ → Res Task
+soundOf file = cond (framed file) (bind (decoded file) (judgedBy taskFault)) (refuse 1)

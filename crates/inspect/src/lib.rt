@@ -1,34 +1,19 @@
-// The whole file: its trailer, its sections front to back, and what survey refuses.
+// The whole file: its trailer, its sections front to back, its names, and what survey refuses.
 use constraint_check::Counted;
 use item_check::Section;
 use task::Fault;
-use task::Number;
 use task_check::Walked;
+use trailer::Bounds;
+use trailer::Trailer;
 ghost use mathlib.Core.Path.{_≡_};
-ghost use Prim.Native.Nat.{_+_, _-_, _<_, _≤_};
-ghost use lib.ListN.{length, take, drop};
-ghost use Rattle.smtlib.specs.Lexicon.{same};
+ghost use Prim.Native.Nat.{_+_, _≤_};
+ghost use lib.ListN.{length, take};
 ghost use Rattle.task.specs.Fault.{lower, refusalOf};
-ghost use Rattle.task.specs.Task.{mark, bound, taskOf};
+ghost use Rattle.task.specs.Task.{taskOf};
 ghost use Rattle.item_check.specs.Items.{itemWalk};
-ghost use Rattle.inspect.specs.Inspect.{boundsOf, inspectedOf};
-ghost use Rattle.inspect.specs.Walk.{ordered, walkItems, sectionOf, itemsOf, Inside, startOf, endOf, trailerOf, judge as judgeOf, conclude as concludeOf};
-
-// Where each section begins, and where the last one ends.
-pub struct Bounds {
-    pub comments: usize,
-    pub datatypes: usize,
-    pub constants: usize,
-    pub functions: usize,
-    pub kvars: usize,
-    pub constraint: usize,
-    pub end: usize,
-}
-
-pub enum Trailer {
-    Read(Bounds),
-    Refused,
-}
+ghost use Rattle.trailer.specs.Bounds.{Inside};
+ghost use Rattle.inspect.specs.Inspect.{inspectedOf, Room, Names};
+ghost use Rattle.inspect.specs.Walk.{walkItems, sectionOf, itemsOf, judge as judgeOf, conclude as concludeOf, soundOf};
 
 // The number of a section's items and the fault that is judged first, or the number of the refusal.
 pub enum Listed {
@@ -54,92 +39,9 @@ fn refusal_of(f: Fault) -> u8
         Fault::WKVar => 14,
         Fault::Arity => 6,
         Fault::Shadowed => 7,
+        Fault::Clash => 15,
         Fault::Sound => 0,
     }
-}
-
-// The offset number i of the trailer.
-fn offset(file: &[u8], i: usize) -> usize
-    requires { ⌜ (28 ≤ length (now file)) × (i < 6) ⌝ }
-    ensures { λ r. ⌜ r ≡ bound (now (file .entry)) i ⌝ }
-{
-    let start = file.len() - 28 + 4 * i;
-    let read = task::number_at(file, start, 4);
-    let Number::Value(n, _) = read else {
-        return 0;
-    };
-    n as usize
-}
-
-// Whether the file ends in the mark.
-fn is_marked(file: &[u8]) -> bool
-    requires { ⌜ 28 ≤ length (now file) ⌝ }
-    ensures { λ r. ⌜ r ≡ same (drop (length (now (file .entry)) - 4) (now (file .entry))) mark ⌝ }
-{
-    let start = file.len() - 4;
-    smtlib::same_bytes(&file[start..], b"HORN")
-}
-
-// The offsets as they stand.
-fn bounds_of(file: &[u8]) -> Bounds
-    requires { ⌜ 28 ≤ length (now file) ⌝ }
-    ensures { λ r. ⌜ r ≡ boundsOf (now (file .entry)) ⌝ }
-{
-    Bounds {
-        comments: offset(file, 0),
-        datatypes: offset(file, 1),
-        constants: offset(file, 2),
-        functions: offset(file, 3),
-        kvars: offset(file, 4),
-        constraint: offset(file, 5),
-        end: file.len() - 28,
-    }
-}
-
-// Whether the first offset is 0 and none is below the one before.
-fn in_order(b: Bounds) -> bool
-    ensures { λ r. ⌜ r ≡ ordered b ⌝ }
-{
-    if b.comments != 0 {
-        return false;
-    }
-    if b.datatypes < b.comments {
-        return false;
-    }
-    if b.constants < b.datatypes {
-        return false;
-    }
-    if b.functions < b.constants {
-        return false;
-    }
-    if b.kvars < b.functions {
-        return false;
-    }
-    if b.constraint < b.kvars {
-        return false;
-    }
-    b.constraint <= b.end
-}
-
-// The length, the mark and the offsets.
-fn read_trailer(file: &[u8]) -> Trailer
-    ensures { λ r. ⌜ r ≡ trailerOf (now (file .entry)) ⌝ }
-{
-    if file.len() < 28 {
-        return Trailer::Refused;
-    }
-    if 60000 < file.len() {
-        return Trailer::Refused;
-    }
-    let marked = is_marked(file);
-    if marked {
-        let b = bounds_of(file);
-        let ordered = in_order(b);
-        if ordered {
-            return Trailer::Read(b);
-        }
-    }
-    Trailer::Refused
 }
 
 // The items of a section, from a position to its end.
@@ -252,12 +154,11 @@ fn conclude(b: Bounds, declarations: u64, fault: Fault, c: Counted) -> Inspected
     }
 }
 
-// The sections of the task that a file holds, the number of its declarations (datatypes, constants, functions and KVars) and of its heads
-// that are not literally true; or the number of the refusal.
-pub fn inspect(file: &[u8]) -> Inspected
-    ensures { λ r. ⌜ r ≡ inspectedOf (now (file .entry)) (taskOf (now (file .entry))) ⌝ }
+// What `inspect` answers, by the faults of the task's pieces alone: its names are not judged.
+fn check_pieces(file: &[u8]) -> Inspected
+    ensures { λ r. ⌜ r ≡ inspectedOf (now (file .entry)) (soundOf (now (file .entry))) ⌝ }
 {
-    let trailer = read_trailer(file);
+    let trailer = trailer::read_trailer(file);
     let Trailer::Read(b) = trailer else {
         return Inspected::Refused(1);
     };
@@ -273,28 +174,22 @@ pub fn inspect(file: &[u8]) -> Inspected
     }
 }
 
-// Where a section begins.
-pub fn start_of(b: Bounds, section: Section) -> usize
-    ensures { λ r. ⌜ r ≡ startOf b section ⌝ }
+// The sections of the task that a file holds, the number of its declarations (datatypes, constants, functions and KVars) and of its heads
+// that are not literally true; or the number of the refusal. The names that the task declares are put into an empty table, and the names of
+// its ForAlls are judged by them.
+pub fn inspect(file: &[u8], table: &mut [u16]) -> Inspected
+    requires { ⌜ Room (now file) (now table) ⌝ }
+    ensures { λ r. ⌜ (r ≡ inspectedOf (now (file .entry)) (taskOf (now (file .entry)))) × Names (now (file .entry)) (now (table .exit)) ⌝ }
 {
-    match section {
-        Section::Comments => b.comments,
-        Section::Datatypes => b.datatypes,
-        Section::Constants => b.constants,
-        Section::Functions => b.functions,
-        Section::KVars => b.kvars,
-    }
-}
-
-// Where it ends.
-pub fn end_of(b: Bounds, section: Section) -> usize
-    ensures { λ r. ⌜ r ≡ endOf b section ⌝ }
-{
-    match section {
-        Section::Comments => b.datatypes,
-        Section::Datatypes => b.constants,
-        Section::Constants => b.functions,
-        Section::Functions => b.kvars,
-        Section::KVars => b.constraint,
-    }
+    let sound = check_pieces(file);
+    let Inspected::Task(b, declarations, heads) = sound else {
+        return sound;
+    };
+    declared::declare(file, b, table);
+    let walked = scope::check_scope(file, b.constraint, 256, table);
+    let Walked::Next(_, fault) = walked else {
+        // the constraint was read before
+        return sound;
+    };
+    judge(b, declarations, heads, fault)
 }

@@ -1,9 +1,9 @@
 // Inspects the files of standard input, each behind its length in 4 bytes, and writes a line for each: its sections and numbers, or the
 // number of its refusal. It reads at most 4,096 files of at most 65,535 bytes.
-use inspect::Bounds;
 use inspect::Inspected;
 use libc::STDOUT_FILENO;
 use task::Number;
+use trailer::Bounds;
 ghost use Prim.Native.Nat.{_≤_};
 
 fn main() {
@@ -49,7 +49,8 @@ fn inspect_into(file: &mut [u8]) -> bool {
     if m < n {
         return false;
     }
-    print_answer(inspect::inspect(file));
+    let mut table = [0u16; 61026];
+    print_answer(inspect::inspect(file, &mut table));
     true
 }
 

@@ -1,7 +1,7 @@
 -- Names at a place: hashing them, comparing them, and whether one stands there.
 use mathlib.Core.Path.{_≡_, refl, sym, ap, _∙_}
 use mathlib.Core.Bool.{Bool, true, false}
-use mathlib.Core.List.{List, [], _∷_}
+use mathlib.Core.List.{List}
 use Prim.Native.Nat.{ℕ, _+_, _*_, _-_, _%_, _≤_, _<_}
 use native.Mathlib.Numerals.{add-one}
 use native.Mathlib.Nat.{add-sub-cancel-left}
@@ -9,7 +9,7 @@ use native.Mathlib.Omega.{arith}
 use lib.Dec.{leb, ltb}
 use lib.ListN.{length, getD, take, drop, drop-of-length-le}
 use lib.Seq.{drop-cons}
-use borrow.Author.Tests.{eq-eqb, lt-ltb, le-ltb, ltb-true, ltb-false, leb-true}
+use borrow.Author.Tests.{lt-ltb, le-ltb, ltb-true, ltb-false, leb-true}
 use Rattle.smtlib.specs.Lexicon.{same}
 use Rattle.smtlib.proofs.Bools.{never, true-holds, and-left, and-right, is-true}
 use Rattle.names.specs.Table.{nameAt, Named, hasName, hashFrom, hashOf, roomFor}
@@ -17,10 +17,6 @@ use Rattle.names.specs.Table.{nameAt, Named, hasName, hashFrom, hashOf, 
 -- a test that cannot hold is false
 pub not-true : (v : Bool) → (v ≡ true → ⊥) → v ≡ false
 not-true v f = never v (λ t. f (is-true v t))
-
-pub same-self : (w : List ℕ) → same w w ≡ true
-same-self [] = refl
-same-self (b ∷ w) = simp (eq-eqb b b refl) (same-self w)
 
 -- hash: the rest of the name makes of h what the whole makes of 0
 pub record Hashing (w : List ℕ) (h i : ℕ) : Type 0 where

@@ -4,18 +4,17 @@ use mathlib.Core.Bool.{Bool, true, false, cond, _&&_, _||_}
 use mathlib.Core.List.{List, [], _∷_, _++_}
 use Prim.Native.Nat.{ℕ, suc, _+_, _-_, _≤_, _<_}
 use native.Mathlib.Omega.{arith}
-use lib.Dec.{leb, eqb}
+use lib.Dec.{leb}
 use lib.ListN.{length, take, replicate, length-append, length-replicate, getD-replicate}
 use lib.Seq.{take-at}
-use borrow.Author.Tests.{le-leb, leb-true, eqb-true, eqb-false}
+use borrow.Author.Tests.{le-leb, leb-true}
 use Rattle.smtlib.specs.Lexicon.{same, isOne}
-use Rattle.smtlib.proofs.Bools.{true-holds, is-true, and-left, and-right, same→eq}
+use Rattle.smtlib.proofs.Bools.{true-holds, is-true, and-left, and-right, same-self, same→eq}
 use Rattle.names.specs.declared.Found.{Found}
 use Rattle.names.specs.declared.Found.the-variants.{Entry, Nothing}
-use Rattle.names.specs.Table.{nameAt, hasName, countOf, Symbol, symbol, symbolOf, firstEntries, entries, orElse, lastFrom, fits, namesOf, inBucket, link, Chained, roomFor, add}
+use Rattle.names.specs.Table.{nameAt, hasName, countOf, Symbol, symbol, symbolOf, firstEntries, entries, orElse, lastFrom, inRange, fits, namesOf, inBucket, link, Chained, roomFor, add}
 use Rattle.names.specs.Change.{Blank, Pushed, Popped}
 use Rattle.names.specs.Theorems.{Fits, Searches, Ranges, isFound, Members, Changes}
-use Rattle.names.proofs.Bytes.{same-self}
 use Rattle.names.proofs.Lasts.{last-is, last-entry, none-passes, none-above, nothing-last, entries-zero, empty-last}
 
 -- SEARCHES
@@ -59,7 +58,7 @@ pub ranges : Ranges
 unfolding lastFrom fits
 ranges = record { later = refl; earlier = refl; lowest = refl; above = refl; below = refl; other = refl }
 
--- ONE KIND
+-- NAMES OF A RANGE OF KINDS
 
 -- the later of two is found, or the earlier
 either-found : (f : Found) (b : Bool) (i : ℕ) → isFound (orElse f (cond b (Entry i) Nothing)) ≡ b || isFound f
@@ -68,44 +67,33 @@ either-found (Entry k) false i = refl
 either-found Nothing true i = refl
 either-found Nothing false i = refl
 
--- a symbol of the kind is one by its name, and one of another kind is none
-fits-kind : (name : List ℕ) (kind : ℕ) (e : Symbol) (b : Bool) → eqb (e .kind) kind ≡ b → (ws : List (List ℕ))
-    → fits name kind kind e || isOne name ws ≡ isOne name (cond b (e .name ∷ ws) ws)
-unfolding fits
-fits-kind name kind e true h ws =
-    let z : e .kind ≡ kind = eqb-true (e .kind) kind h in
-    simp (le-leb kind (e .kind) (omega arith), le-leb (e .kind) kind (omega arith))
-fits-kind name kind e false h ws = ap (λ (b : Bool). (b && same name (e .name)) || isOne name ws) (apart (leb kind (e .kind)) (leb (e .kind) kind) refl refl)
-  where
-    apart : (a b : Bool) → leb kind (e .kind) ≡ a → leb (e .kind) kind ≡ b → (leb kind (e .kind) && leb (e .kind) kind) ≡ false
-    apart true true u v =
-        let x = leb-true kind (e .kind) u in
-        let y = leb-true (e .kind) kind v in
-        absurd (eqb-false (e .kind) kind h (omega arith))
-    apart true false u v = rw (u, v)
-    apart false b u v = rw u
+module _ (lowest highest : ℕ) where
+  -- a symbol of a kind in the range is one by its name, and another is none
+  one-chosen : (name x : List ℕ) (b : Bool) (ws : List (List ℕ)) → (b && same name x) || isOne name ws ≡ isOne name (cond b (x ∷ ws) ws)
+  one-chosen name x true ws = refl
+  one-chosen name x false ws = refl
 
-members-from : (name : List ℕ) (kind i : ℕ) (es : List Symbol) → isFound (lastFrom (fits name kind kind) i es) ≡ isOne name (namesOf kind es)
-unfolding lastFrom namesOf
-members-from name kind i [] = refl
-members-from name kind i (e ∷ es) =
-    either-found (lastFrom (fits name kind kind) (suc i) es) (fits name kind kind e) i
-    ∙ ap (λ (b : Bool). fits name kind kind e || b) (members-from name kind (suc i) es)
-    ∙ fits-kind name kind e (eqb (e .kind) kind) refl (namesOf kind es)
+  members-from : (name : List ℕ) (i : ℕ) (es : List Symbol) → isFound (lastFrom (fits name lowest highest) i es) ≡ isOne name (namesOf lowest highest es)
+  unfolding lastFrom namesOf fits
+  members-from name i [] = refl
+  members-from name i (e ∷ es) =
+      either-found (lastFrom (fits name lowest highest) (suc i) es) (fits name lowest highest e) i
+      ∙ ap (λ (b : Bool). fits name lowest highest e || b) (members-from name (suc i) es)
+      ∙ one-chosen name (e .name) (inRange lowest highest (e .kind)) (namesOf lowest highest es)
+
+  -- the names in two lists
+  pub names-append : (es fs : List Symbol) → namesOf lowest highest (es ++ fs) ≡ namesOf lowest highest es ++ namesOf lowest highest fs
+  unfolding namesOf
+  names-append [] fs = refl
+  names-append (e ∷ es) fs = chosen (inRange lowest highest (e .kind)) (names-append es fs)
+    where
+      chosen : (b : Bool) → namesOf lowest highest (es ++ fs) ≡ namesOf lowest highest es ++ namesOf lowest highest fs
+          → cond b (e .name ∷ namesOf lowest highest (es ++ fs)) (namesOf lowest highest (es ++ fs)) ≡ cond b (e .name ∷ namesOf lowest highest es) (namesOf lowest highest es) ++ namesOf lowest highest fs
+      chosen true h = ap (λ (ws : List (List ℕ)). e .name ∷ ws) h
+      chosen false h = h
 
 pub members : Members
-members name kind es = members-from name kind 0 es
-
--- the names of a kind in two lists
-pub names-append : (kind : ℕ) (es fs : List Symbol) → namesOf kind (es ++ fs) ≡ namesOf kind es ++ namesOf kind fs
-unfolding namesOf
-names-append kind [] fs = refl
-names-append kind (e ∷ es) fs = chosen (eqb (e .kind) kind) (names-append kind es fs)
-  where
-    chosen : (b : Bool) → namesOf kind (es ++ fs) ≡ namesOf kind es ++ namesOf kind fs
-        → cond b (e .name ∷ namesOf kind (es ++ fs)) (namesOf kind (es ++ fs)) ≡ cond b (e .name ∷ namesOf kind es) (namesOf kind es) ++ namesOf kind fs
-    chosen true h = ap (λ (ws : List (List ℕ)). e .name ∷ ws) h
-    chosen false h = h
+members name lowest highest es = members-from lowest highest name 0 es
 
 -- CHANGES
 

@@ -93,14 +93,18 @@ lastFrom p i (e ∷ es) = orElse (lastFrom p (suc i) es) (cond (p e) (Entry i) N
 abbrev pub lastOf : (Symbol → Bool) → List Symbol → Found
 lastOf p es = lastFrom p 0 es
 
+-- a kind is in the range
+abbrev pub inRange : ℕ → ℕ → ℕ → Bool
+inRange lowest highest kind = leb lowest kind && leb kind highest
+
 -- a symbol has the name, and a kind in the range
 unfoldable pub fits : List ℕ → ℕ → ℕ → Symbol → Bool
-fits name lowest highest e = leb lowest (e .kind) && leb (e .kind) highest && same name (e .name)
+fits name lowest highest e = inRange lowest highest (e .kind) && same name (e .name)
 
--- the names of the symbols of a kind, in order
-unfoldable pub namesOf : ℕ → List Symbol → List (List ℕ)
-namesOf k [] = []
-namesOf k (e ∷ es) = cond (eqb (e .kind) k) (e .name ∷ namesOf k es) (namesOf k es)
+-- the names of the symbols whose kind is in the range, in order
+unfoldable pub namesOf : ℕ → ℕ → List Symbol → List (List ℕ)
+namesOf lowest highest [] = []
+namesOf lowest highest (e ∷ es) = cond (inRange lowest highest (e .kind)) (e .name ∷ namesOf lowest highest es) (namesOf lowest highest es)
 
 -- a symbol is of the bucket
 unfoldable pub inBucket : ℕ → Symbol → Bool

@@ -42,9 +42,9 @@ abbrev pub isFound : Found → Bool
 isFound (Entry k) = true
 isFound Nothing = false
 
--- For one kind it finds an entry exactly if the name is one of the names of that kind. (members)
+-- It finds an entry exactly if the name is one of the names of the kinds in the range. (members)
 abbrev pub Members : Type 0
-Members = (name : List ℕ) (kind : ℕ) (es : List Symbol) → isFound (lastOf (fits name kind kind) es) ≡ isOne name (namesOf kind es)
+Members = (name : List ℕ) (lowest highest : ℕ) (es : List Symbol) → isFound (lastOf (fits name lowest highest) es) ≡ isOne name (namesOf lowest highest es)
 
 -- Zeros are a blank table. A blank table can be searched and has no entries. A push, what leaves the entries alone, and a pop give back the same entries. (changes)
 pub record Changes : Type 0 where

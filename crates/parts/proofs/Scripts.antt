@@ -13,9 +13,8 @@ use Rattle.task.proofs.Reading.{bind-got}
 use Rattle.task.proofs.Pieces.{each-covers}
 use Rattle.item_check.specs.declared.Section.{Section}
 use Rattle.item_check.specs.declared.Section.the-variants.{Datatypes, Constants, Functions, KVars}
-use Rattle.inspect.specs.declared.Bounds.{Bounds}
-use Rattle.inspect.specs.Inspect.{boundsOf}
-use Rattle.inspect.specs.Walk.{startOf, endOf}
+use Rattle.trailer.specs.declared.Bounds.{Bounds}
+use Rattle.trailer.specs.Bounds.{boundsOf, startOf, endOf}
 use Rattle.path.specs.declared.Path.{Path}
 use Rattle.path.specs.Offsets.{entries as offsetsOn}
 use Rattle.path.proofs.Entries.{leaves-empty}

@@ -8,9 +8,8 @@ use Rattle.task.specs.Decode.{Res, got, bind, Decoder, give, _▹_, comment, da
 use Rattle.task.specs.Task.{taskOf}
 use Rattle.item_check.specs.declared.Section.{Section}
 use Rattle.item_check.specs.declared.Section.the-variants.{Comments, Datatypes, Constants, Functions, KVars}
-use Rattle.inspect.specs.declared.Bounds.{Bounds}
-use Rattle.inspect.specs.Inspect.{boundsOf}
-use Rattle.inspect.specs.Walk.{Inside, startOf, endOf}
+use Rattle.trailer.specs.declared.Bounds.{Bounds}
+use Rattle.trailer.specs.Bounds.{boundsOf, Inside, startOf, endOf}
 use Rattle.names.specs.Table.{entries}
 use Rattle.declared.specs.Symbols.{symbolsOf}
 use Rattle.smt_text.specs.Encoder.{Encoder, encoder}

@@ -5,18 +5,18 @@ use flatten::Around;
 use flatten::Moved;
 use flatten::Progress;
 use flatten::Range;
-use inspect::Bounds;
 use item_check::Section;
 use output::Out;
 use path::Path;
 use smt_word::Sent;
 use task::SpanRead;
 use task_check::Walked;
+use trailer::Bounds;
 ghost use mathlib.Core.Path.{_≡_};
 ghost use Prim.Native.Nat.{_≤_};
 ghost use lib.ListN.{length, take};
 ghost use Rattle.task.specs.Decode.{comment, section as sectionOf};
-ghost use Rattle.inspect.specs.Walk.{Inside};
+ghost use Rattle.trailer.specs.Bounds.{Inside};
 ghost use Rattle.names.specs.Table.{Chained};
 ghost use Rattle.smt_sort.specs.Section.{encoderIn};
 ghost use Rattle.horn_text.specs.Script.{write-comment, opening};
@@ -192,8 +192,8 @@ fn put_items(
     requires { ⌜ Inside (now file) b × Chained (now file) (now enc) ⌝ }
     ensures { λ r. ⌜ PutsAll each range (sectionTexts (now (file .entry)) (now (enc .entry)) b section) (writing p (now (buf .entry))) (writing r (now (buf .exit))) ⌝ }
 {
-    let at = inspect::start_of(b, section);
-    let end = inspect::end_of(b, section);
+    let at = trailer::start_of(b, section);
+    let end = trailer::end_of(b, section);
     put_section(file, at, end, section, enc, range, buf, p)
 }
 

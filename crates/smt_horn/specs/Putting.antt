@@ -4,13 +4,15 @@ use mathlib.Core.List.{List, []}
 use Prim.Native.Nat.{ℕ, _≤_, _<_}
 use lib.ListN.{length}
 use Rattle.task.specs.Ast.{Task}
-use Rattle.task.specs.Decode.{got}
-use Rattle.task.specs.Task.{taskOf}
+use Rattle.task.specs.Decode.{got, refuse}
+use Rattle.task.specs.Task.{taskOf, headsOf}
 use Rattle.horn_text.specs.Script.{partsOf}
 use Rattle.flatten.specs.declared.Range.{Range}
 use Rattle.flatten.specs.declared.Progress.{Progress}
 use Rattle.flatten.specs.Parts.{puts}
 use Rattle.parts.specs.Whole.{fresh}
+use Rattle.smt_horn.specs.declared.Outcome.{Outcome}
+use Rattle.smt_horn.specs.declared.Outcome.the-variants as outcome-is
 
 -- Its parts in the range are measured, and written if the buffer has room for them.
 pub record Put (t : Task) (r : Range) (buf after : List ℕ) (p : Progress) : Type 0 where
@@ -21,5 +23,18 @@ pub record Put (t : Task) (r : Range) (buf after : List ℕ) (p : Progress) : Ty
   pub longer : length buf < p .len → after ≡ buf
 
 -- where the file holds a task
-unfoldable pub Puts : List ℕ → Range → List ℕ → List ℕ → Progress → Type 0
-Puts file r buf after p = (t : Task) (end : ℕ) → taskOf file ≡ got t end → Put t r buf after p
+unfoldable pub PutsTask : List ℕ → Range → List ℕ → List ℕ → Progress → Type 0
+PutsTask file r buf after p = (t : Task) (end : ℕ) → taskOf file ≡ got t end → Put t r buf after p
+
+-- The file holds a task with h heads that are not literally true, and its parts were put.
+pub record Given (file : List ℕ) (r : Range) (buf after : List ℕ) (h : ℕ) (p : Progress) : Type 0 where
+  pub task : Task
+  pub end : ℕ
+  pub held : taskOf file ≡ got task end
+  pub heads : headsOf (task .constraint) ≡ h
+  pub put : Put task r buf after p
+
+-- so it is, or the file was refused and the buffer is as it was
+unfoldable pub Puts : List ℕ → Range → List ℕ → List ℕ → Outcome → Type 0
+Puts file r buf after (outcome-is.Parts h p) = Given file r buf after h p
+Puts file r buf after (outcome-is.Refused n) = (taskOf file ≡ refuse n) × (after ≡ buf)

@@ -45,7 +45,7 @@ binders-row enc = record { none = refl; step = λ b bs. refl }
 module _ (s enc : List ℕ) (x : Span) (kind : Kind) (word : List ℕ) (f : Found) (w : word ≡ bytesOf s x) (e : f ≡ lastOf (fits word (numberOf kind) (numberOf kind)) (entries s enc)) where
   declared-is : isFound f ≡ isOne (bytesOf s x) (declaredIn s enc kind)
   unfolding declaredIn
-  declared-is = ap isFound e ∙ members word (numberOf kind) (entries s enc) ∙ ap (λ (v : List ℕ). isOne v (namesOf (numberOf kind) (entries s enc))) w
+  declared-is = ap isFound e ∙ members word (numberOf kind) (numberOf kind) (entries s enc) ∙ ap (λ (v : List ℕ). isOne v (namesOf (numberOf kind) (numberOf kind) (entries s enc))) w
 
   pub is-there : (k : ℕ) → f ≡ found-is.Entry k → true ≡ isOne (bytesOf s x) (declaredIn s enc kind)
   is-there k u = sym (ap isFound u) ∙ declared-is

@@ -13,7 +13,7 @@ use Rattle.smt_sort.specs.declared.SortCtor.the-variants as ctor
 
 -- the declared names of a kind, in the order of the table
 unfoldable pub declaredIn : List ℕ → List ℕ → Kind → List (List ℕ)
-declaredIn s enc kind = namesOf (numberOf kind) (entries s enc)
+declaredIn s enc kind = namesOf (numberOf kind) (numberOf kind) (entries s enc)
 
 -- the encoder that a table is
 unfoldable pub encoderIn : List ℕ → List ℕ → Encoder

@@ -7,7 +7,7 @@ use Prim.Native.String.{String}
 use Prim.Native.Nat.{ℕ, _<_, _≤_}
 use native.Mathlib.Omega.{arith}
 use lib.Dec.{T, leb, eqb, eqb→eq, not-T}
-use borrow.Author.Tests.{le-leb, lt-leb}
+use borrow.Author.Tests.{le-leb, lt-leb, eq-eqb}
 use Rattle.smtlib.specs.Lexicon.{bytes, all, any, same, among}
 
 pub is-true : (v : Bool) → T v → v ≡ true
@@ -90,6 +90,10 @@ any-all p b (x ∷ l) h g = go (either (eqb b x) (any (eqb b) l) h) (λ k. any-a
     go : T (eqb b x) ⊎ T (any (eqb b) l) → (T (any (eqb b) l) → T (p b)) → T (p b)
     go (inl e) f = subst⁻¹ (λ (n : ℕ). T (p n)) (eqb→eq b x e) (all-head p x l g)
     go (inr k) f = f k
+
+pub same-self : (w : List ℕ) → same w w ≡ true
+same-self [] = refl
+same-self (b ∷ w) = simp (eq-eqb b b refl) (same-self w)
 
 pub same→eq : (v w : List ℕ) → T (same v w) → v ≡ w
 same→eq [] [] h = refl

@@ -10,11 +10,12 @@ use Rattle.task.specs.declared.BinOp.the-variants.{Add}
 use Rattle.task.specs.declared.BinRel.the-variants.{Ge}
 use Rattle.task.specs.declared.Quantifier.the-variants.{Exists}
 use Rattle.task.specs.declared.ThyFunc.the-variants.{SetEmpty, MapDefault}
-use Rattle.task.specs.declared.Fault.the-variants.{Text, NoConstructors, BitVecWidth, Unqualified, WKVar, Arity, Shadowed, Sound}
+use Rattle.task.specs.declared.Fault.the-variants.{Text, NoConstructors, BitVecWidth, Unqualified, WKVar, Arity, Shadowed, Clash, Sound}
 use Rattle.task.specs.Ast.{SortCtor, Sort, Sorts, Binder, Constant, Expr, Exprs, Pred, Constraint, Constraints, DataDecl, FunBody, FunDef, Task}
 use Rattle.task.specs.Decode.{got, refuse, raw, items, sortForms, decSort, binRels, exprForms, decExpr, decPred, decConstraint}
 use Rattle.task.specs.Fault.{lower, nameFault, textFault, sortFault, sortsFault, binderFault, needsSort, thyFuncFault, exprFault, exprsFault, predFault, shadowFault, constraintFault, constraintsFault, emptyFault, datatypeFault, arityFault, bodyFault, kvarFault, taskFault}
-use Rattle.task.specs.Task.{bound, framed, decoded, judged, taskOf, literallyTrue, predHeads, headsOf, headsIn, declarations}
+use Rattle.task.specs.Scope.{takenNames, clashFault, constraintScope, scopeFault}
+use Rattle.task.specs.Task.{bound, framed, decoded, taskOf, literallyTrue, predHeads, headsOf, headsIn, declarations}
 use Rattle.task.specs.Returns.{write-sort-returns, write-thy-func-returns, write-application-head-returns, write-expr-returns, write-pred-returns, write-datatype-decl-returns, write-const-decl-returns, write-fun-def-returns, write-kvar-decl-returns}
 
 -- 27 zero bytes are too short.
@@ -146,6 +147,28 @@ shadowed = refl
 pub beside : constraintFault [] (Constraint.conj (Constraints.more (for-all-x nothing) (Constraints.more (for-all-x nothing) Constraints.none))) ≡ Sound
 unfolding lower nameFault sortFault shadowFault constraintFault constraintsFault reservedWords
 beside = refl
+
+-- The names that a task declares, one of each kind: a datatype d with a constructor c of a field f, a constant k, a function g and a KVar v. A ForAll of
+-- each of these names, without heads under it: the datatype's is none that counts.
+abbrev one-of-each : Constraint → Task
+one-of-each c = record {
+  comments = [];
+  datatypes = record { name = bytes "d"; vars = 0; ctors = record { name = bytes "c"; fields = record { name = bytes "f"; sort = Sort.int } ∷ [] } ∷ [] } ∷ [];
+  constants = record { name = bytes "k"; sort = Sort.int } ∷ [];
+  functions = record { name = bytes "g"; params = 0; inputs = Sorts.none; output = Sort.int; body = none } ∷ [];
+  kvars = record { kvid = bytes "v"; sorts = Sorts.none } ∷ [];
+  constraint = c;
+}
+
+pub clashes : map (λ x. scopeFault (one-of-each (Constraint.forAll x Sort.int [] nothing))) (map bytes ("d" ∷ "c" ∷ "f" ∷ "k" ∷ "g" ∷ "v" ∷ "x" ∷ []))
+    ≡ Sound ∷ Clash ∷ Clash ∷ Clash ∷ Clash ∷ Clash ∷ Sound ∷ []
+unfolding lower takenNames clashFault constraintScope scopeFault
+clashes = refl
+
+-- Case S has no such ForAll.
+pub s-names : scopeFault task-s ≡ Sound
+unfolding task-s lower takenNames clashFault constraintScope scopeFault
+s-names = refl
 
 -- An empty And is not literally true.
 pub empty-and : literallyTrue (Pred.expr (Expr.and Exprs.none)) ≡ false

@@ -2,17 +2,19 @@
 -- there is none in any part.
 use mathlib.Core.Path.{_≡_, refl, sym, ap, _∙_}
 use mathlib.Core.Logic.{⊎-elim}
-use Prim.Native.Nat.{_<_, _≤_}
+use Prim.Native.Nat.{ℕ, _<_, _≤_}
+use mathlib.Core.List.{[], _∷_}
 use native.Mathlib.Omega.{arith}
+use lib.ListN.{getD}
 use borrow.Author.Tests.{le-leb, lt-leb}
 use Rattle.task.specs.declared.Fault.{Fault}
-use Rattle.task.specs.declared.Fault.the-variants.{Text, NoConstructors, BitVecWidth, Unqualified, WKVar, Arity, Shadowed, Sound}
+use Rattle.task.specs.declared.Fault.the-variants.{Text, NoConstructors, BitVecWidth, Unqualified, WKVar, Arity, Shadowed, Clash, Sound}
 use Rattle.task.specs.Fault.{rank, lower}
 use Rattle.task.specs.Laws.{SoundParts}
 use Rattle.task.proofs.Reading.{le-or-lt}
 
 module _ (f g : Fault) where
-  lower-left : rank f ≤ rank g → lower f g ≡ f
+  pub lower-left : rank f ≤ rank g → lower f g ≡ f
   unfolding lower
   lower-left h = rw (le-leb _ _ h)
 
@@ -21,7 +23,7 @@ module _ (f g : Fault) where
   lower-right h = rw (lt-leb _ _ h)
 
 -- nothing is judged behind a sound piece
-rank-most : (f : Fault) → rank f ≤ 8
+rank-most : (f : Fault) → rank f ≤ 9
 rank-most Text = omega arith
 rank-most NoConstructors = omega arith
 rank-most BitVecWidth = omega arith
@@ -29,9 +31,10 @@ rank-most Unqualified = omega arith
 rank-most WKVar = omega arith
 rank-most Arity = omega arith
 rank-most Shadowed = omega arith
+rank-most Clash = omega arith
 rank-most Sound = omega arith
 
-sound-last : (f : Fault) → 8 ≤ rank f → f ≡ Sound
+sound-last : (f : Fault) → 9 ≤ rank f → f ≡ Sound
 sound-last Text h = absurd (omega arith)
 sound-last NoConstructors h = absurd (omega arith)
 sound-last BitVecWidth h = absurd (omega arith)
@@ -39,6 +42,7 @@ sound-last Unqualified h = absurd (omega arith)
 sound-last WKVar h = absurd (omega arith)
 sound-last Arity h = absurd (omega arith)
 sound-last Shadowed h = absurd (omega arith)
+sound-last Clash h = absurd (omega arith)
 sound-last Sound h = refl
 
 pub lower-sound : (f : Fault) → lower f Sound ≡ f
@@ -61,11 +65,36 @@ lower-assoc f g h =
     (le-or-lt (rank g) (rank h)))
     (le-or-lt (rank f) (rank g))
 
+-- the faults by their ranks, which begin with 1
+abbrev ranked : ℕ → Fault
+ranked n = getD (Sound ∷ Text ∷ NoConstructors ∷ BitVecWidth ∷ Unqualified ∷ WKVar ∷ Arity ∷ Shadowed ∷ Clash ∷ []) n Sound
+
+rank-ranked : (f : Fault) → ranked (rank f) ≡ f
+rank-ranked Text = refl
+rank-ranked NoConstructors = refl
+rank-ranked BitVecWidth = refl
+rank-ranked Unqualified = refl
+rank-ranked WKVar = refl
+rank-ranked Arity = refl
+rank-ranked Shadowed = refl
+rank-ranked Clash = refl
+rank-ranked Sound = refl
+
+pub lower-comm : (f g : Fault) → lower f g ≡ lower g f
+lower-comm f g =
+    ⊎-elim
+    (λ a. ⊎-elim
+    (λ b. let r : rank f ≡ rank g = omega arith in let e : f ≡ g = sym (rank-ranked f) ∙ ap ranked r ∙ rank-ranked g in rw e)
+    (λ b. lower-left f g a ∙ sym (lower-right g f b))
+    (le-or-lt (rank g) (rank f)))
+    (λ a. lower-right f g a ∙ sym (lower-left g f (omega arith)))
+    (le-or-lt (rank f) (rank g))
+
 pub sound-parts : SoundParts
 sound-parts = record {
   none-left = λ f g e.
-      ⊎-elim (λ h. sym (lower-left f g h) ∙ e) (λ h. absurd (let r = rank-most f in let z : rank g ≡ 8 = ap rank (sym (lower-right f g h) ∙ e) in omega arith)) (le-or-lt (rank f) (rank g));
+      ⊎-elim (λ h. sym (lower-left f g h) ∙ e) (λ h. absurd (let r = rank-most f in let z : rank g ≡ 9 = ap rank (sym (lower-right f g h) ∙ e) in omega arith)) (le-or-lt (rank f) (rank g));
   none-right = λ f g e.
-      ⊎-elim (λ h. sound-last g (let z : rank f ≡ 8 = ap rank (sym (lower-left f g h) ∙ e) in omega arith)) (λ h. sym (lower-right f g h) ∙ e) (le-or-lt (rank f) (rank g));
+      ⊎-elim (λ h. sound-last g (let z : rank f ≡ 9 = ap rank (sym (lower-left f g h) ∙ e) in omega arith)) (λ h. sym (lower-right f g h) ∙ e) (le-or-lt (rank f) (rank g));
   none-both = λ f g e e'. rw (e, e') (lower-sound Sound);
 }

@@ -12,3 +12,4 @@ pub mod Returning
 pub mod Running
 pub mod Sections
 pub mod Opened
+pub mod Scoping

@@ -9,11 +9,11 @@ use lib.Dec.{T, leb, eqb, leb→le, eqb→eq, lit≤}
 use lib.ListN.{length, take, drop}
 use borrow.Author.Tests.{le-leb, lt-leb}
 use Rattle.smtlib.specs.Lexicon.{same}
-use Rattle.smtlib.proofs.Bools.{and-left, and-right}
+use Rattle.smtlib.proofs.Bools.{is-true, true-holds, and-left, and-right, clash}
 use Rattle.task.specs.Ast.{Task}
 use Rattle.task.specs.Decode.{Res, got, refuse, bind, comment, datatype, constant, function, kvar, decConstraint, deepest, section}
-use Rattle.task.specs.Fault.{refusalOf, taskFault}
-use Rattle.task.specs.Task.{bound, inOrder, mark, framed, within, decoded, judged, taskOf}
+use Rattle.task.specs.Fault.{refusalOf}
+use Rattle.task.specs.Task.{bound, inOrder, mark, framed, within, decoded, firstFault, judged, taskOf}
 use Rattle.task.proofs.Reading.{bind-got, got-refuse, le-or-lt}
 
 -- where a file that holds a task has its sections, and what stands in them
@@ -50,9 +50,9 @@ cond-got false x k e = got-refuse (sym e)
 
 -- THE TRAILER
 
--- a longer file is refused
-too-long : (file : List ℕ) → 60000 < length file → taskOf file ≡ refuse 1
-unfolding taskOf framed
+-- a longer file is none
+too-long : (file : List ℕ) → 60000 < length file → framed file ≡ false
+unfolding framed
 too-long file h = rw (le-leb 28 (length file) (omega arith), lt-leb (length file) 60000 h)
 
 -- the tests of the first n sections' ends, behind another test
@@ -127,12 +127,32 @@ sections file t end most rise e =
       constraint = x5 .first ∙ ap (got (x5 .value)) q;
     })
 
--- every file that holds a task is such a file
-pub opened : (file : List ℕ) (t : Task) (end : ℕ) → taskOf file ≡ got t end → Opened file t
+-- every file that has a trailer and decodes is such a file
+pub opened-framed : (file : List ℕ) (t : Task) (end : ℕ) → framed file ≡ true → decoded file ≡ got t end → Opened file t
+opened-framed file t end f e =
+    let most : length file ≤ 60000 = ⊎-elim (λ h. h) (λ h. let z : true ≡ false = sym f ∙ too-long file h in clash (cc)) (le-or-lt (length file) 60000) in
+    sections file t end most (in-order file (true-holds f)) e
+
+-- what a file that holds a task has
+pub record Held (file : List ℕ) (t : Task) (end : ℕ) : Type 0 where
+  pub framed : framed file ≡ true
+  pub decoded : decoded file ≡ got t end
+  pub judged : judged t end ≡ got t end
+
+pub held : (file : List ℕ) (t : Task) (end : ℕ) → taskOf file ≡ got t end → Held file t end
 unfolding taskOf judged
-opened file t end e =
-    let most = ⊎-elim (λ h. h) (λ h. got-refuse (sym e ∙ too-long file h)) (le-or-lt (length file) 60000) in
-    let rise = in-order file (passed (framed file) (bind (decoded file) judged) 1 e) in
+held file t end e =
     let x = bind-got (decoded file) judged t end (cond-got (framed file) (bind (decoded file) judged) 1 e) in
-    let r = refusalOf (taskFault (x .value)) in
-    sections file t end most rise (x .first ∙ cond-got (eqb r 0) (got (x .value) (x .next)) r (x .then))
+    let r = refusalOf (firstFault (x .value)) in
+    let z : got (x .value) (x .next) ≡ got t end = cond-got (eqb r 0) (got (x .value) (x .next)) r (x .then) in
+    let y : x .value ≡ t = cc in
+    let q : x .next ≡ end = cc in
+    record {
+      framed = is-true (framed file) (passed (framed file) (bind (decoded file) judged) 1 e);
+      decoded = x .first ∙ z;
+      judged = ap (λ (w : Task). judged w end) (sym y) ∙ ap (judged (x .value)) (sym q) ∙ x .then;
+    }
+
+-- and so is every file that holds a task
+pub opened : (file : List ℕ) (t : Task) (end : ℕ) → taskOf file ≡ got t end → Opened file t
+opened file t end e = let h = held file t end e in opened-framed file t end (h .framed) (h .decoded)

@@ -37,6 +37,10 @@ le-or-lt a b = sides a b (leb a b) refl
 pub got-refuse : {A C : Type 0} {a : A} {p k : ℕ} → got a p ≡ refuse k → C
 got-refuse e = absurd (let z : _≡_ {A = ℕ} 0 1 = cc in omega arith)
 
+-- two answers that are the same hold the same
+pub same-value : {A : Type 0} {a b : A} {p q : ℕ} → got a p ≡ got b q → a ≡ b
+same-value e = cc
+
 -- what came before, where there is an answer
 pub record Before {A B : Type 0} (x : Res A) (k : A → ℕ → Res B) (b : B) (q : ℕ) : Type 0 where
   pub value : A

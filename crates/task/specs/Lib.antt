@@ -1,6 +1,7 @@
 pub mod Ast
 pub mod Decode
 pub mod Fault
+pub mod Scope
 pub mod Task
 pub mod Returns
 pub mod Covers

@@ -7,7 +7,9 @@ use lib.ListN.{length, take, drop}
 use Rattle.smtlib.specs.Lexicon.{bytes, same, isOne}
 use Rattle.task.specs.Ast.{Constant, Expr, Pred, Constraint, Constraints, DataCtor, DataDecl, Task}
 use Rattle.task.specs.Decode.{Res, got, refuse, bind, Decoder, little, comment, datatype, constant, function, kvar, decConstraint, deepest, section}
-use Rattle.task.specs.Fault.{refusalOf, taskFault}
+use Rattle.task.specs.declared.Fault.{Fault}
+use Rattle.task.specs.Fault.{lower, refusalOf, taskFault}
+use Rattle.task.specs.Scope.{scopeFault}
 
 -- where the trailer begins
 abbrev pub trailerAt : List ℕ → ℕ
@@ -52,9 +54,17 @@ decoded file =
     (got (record { comments = comments; datatypes = datatypes; constants = constants; functions = functions; kvars = kvars; constraint = constraint }) end)
     (refuse 2)))))))
 
+-- a task without fault, or the number of its fault
+abbrev pub judgedBy : (Task → Fault) → Task → ℕ → Res Task
+judgedBy fault t end = cond (eqb (refusalOf (fault t)) 0) (got t end) (refuse (refusalOf (fault t)))
+
+-- the fault that is judged first: of a piece, or of a name (W-207)
+unfoldable pub firstFault : Task → Fault
+firstFault t = lower (taskFault t) (scopeFault t)
+
 -- from 4 on: the fault that is judged first, if there is one
 unfoldable pub judged : Task → ℕ → Res Task
-judged t end = cond (eqb (refusalOf (taskFault t)) 0) (got t end) (refuse (refusalOf (taskFault t)))
+judged t end = judgedBy firstFault t end
 
 -- the task that a file holds, or the number of its refusal
 unfoldable pub taskOf : List ℕ → Res Task

@@ -87,6 +87,7 @@ pub enum Fault {
     WKVar,
     Arity,
     Shadowed,
+    Clash,
     Sound,
 }
 

@@ -51,7 +51,8 @@ fn rank(f: Fault) -> u8
         Fault::WKVar => 5,
         Fault::Arity => 6,
         Fault::Shadowed => 7,
-        Fault::Sound => 8,
+        Fault::Clash => 8,
+        Fault::Sound => 9,
     }
 }
 

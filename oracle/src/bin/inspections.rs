@@ -8,7 +8,7 @@
 //! damaged or made faulty by chance, carry none.
 use oracle::chance::{Chance, SEED};
 use oracle::words::{self, joined, offsets, sealed, Usual};
-use std::{env, fs, io, path::Path};
+use std::{collections::HashSet, env, fs, io, path::Path};
 
 // ---- The tree. Codes and numbers that no rule speaks of are read and not kept.
 
@@ -208,7 +208,7 @@ impl Reader<'_> {
 // ---- The other refusals: all that holds of a tree, a bit for each
 
 /// In the order of judging; the lowest bit is the first's.
-const JUDGED: [u8; 7] = [4, 5, 12, 13, 14, 6, 7];
+const JUDGED: [u8; 8] = [4, 5, 12, 13, 14, 6, 7, 15];
 
 const TEXT: u8 = 1;
 const NO_CTORS: u8 = 1 << 1;
@@ -217,6 +217,7 @@ const NO_SORT: u8 = 1 << 3;
 const WEAK: u8 = 1 << 4;
 const ARITY: u8 = 1 << 5;
 const REPEATED: u8 = 1 << 6;
+const DECLARED: u8 = 1 << 7;
 
 const RESERVED: &str = "! _ as let exists forall match par BINARY DECIMAL HEXADECIMAL NUMERAL STRING assert check-sat check-sat-assuming \
     declare-const declare-datatype declare-datatypes declare-fun declare-sort define-fun define-fun-rec define-funs-rec define-sort echo \
@@ -282,13 +283,14 @@ fn in_pred(pred: &Pred) -> u8 {
     }
 }
 
-fn in_constraint(constraint: &Constraint, around: &[&Name]) -> u8 {
+fn in_constraint(constraint: &Constraint, declared: &HashSet<&Name>, around: &[&Name]) -> u8 {
     match constraint {
         Constraint::Pred(pred) => in_pred(pred),
-        Constraint::Conj(members) => any(members, |c| in_constraint(c, around)),
+        Constraint::Conj(members) => any(members, |c| in_constraint(c, declared, around)),
         Constraint::ForAll(name, sort, preds, body) => {
-            let own = in_name(name) | in_sort(sort) | any(preds, in_pred) | fault_if(around.contains(&name), REPEATED);
-            own | in_constraint(body, &[around, &[name]].concat())
+            let binder = fault_if(around.contains(&name), REPEATED) | fault_if(declared.contains(name), DECLARED);
+            let own = in_name(name) | in_sort(sort) | any(preds, in_pred) | binder;
+            own | in_constraint(body, declared, &[around, &[name]].concat())
         }
     }
 }
@@ -296,6 +298,19 @@ fn in_constraint(constraint: &Constraint, around: &[&Name]) -> u8 {
 fn in_function(function: &Function) -> u8 {
     let in_body = |(args, e): &(Vec<Name>, Expr)| fault_if(args.len() != function.inputs.len(), ARITY) | any(args, in_name) | in_expr(e);
     in_name(&function.name) | any(&function.inputs, in_sort) | in_sort(&function.output) | function.body.as_ref().map_or(0, in_body)
+}
+
+/// The names of constructors, fields, constants, functions and KVars: no ForAll may have one of them.
+fn declared(task: &Task) -> HashSet<&Name> {
+    let mut names = HashSet::new();
+    for (name, fields) in task.datatypes.iter().flat_map(|(_, ctors)| ctors) {
+        names.insert(name);
+        names.extend(fields.iter().map(|(name, _)| name));
+    }
+    names.extend(task.constants.iter().map(|(name, _)| name));
+    names.extend(task.functions.iter().map(|function| &function.name));
+    names.extend(task.kvars.iter().map(|(name, _)| name));
+    names
 }
 
 fn in_task(task: &Task) -> u8 {
@@ -306,7 +321,7 @@ fn in_task(task: &Task) -> u8 {
         | any(&task.constants, in_named_sort)
         | any(&task.functions, in_function)
         | any(&task.kvars, |(name, sorts)| in_name(name) | any(sorts, in_sort))
-        | in_constraint(&task.constraint, &[])
+        | in_constraint(&task.constraint, &declared(task), &[])
 }
 
 // ---- The answer
@@ -337,9 +352,10 @@ fn inspect(file: &[u8]) -> Answer<Inspection> {
 
 // ---- Files in the notation of words
 
-/// A name, a binder, a sort, an expression, a predicate, a constraint; a head literally true and one that is not; ForAlls without a body.
+/// A name, one that is declared, a binder, a sort, an expression, a predicate, a constraint; a head literally true and one that is not; ForAlls
+/// without a body.
 const USUAL: &Usual = &[
-    ("N", "'n"), ("B", "'x"), ("S", "0"), ("E", "1 0"), ("P", "0 'k #0"), ("C", "1 #0"),
+    ("N", "'n"), ("M", "'m"), ("B", "'x"), ("S", "0"), ("E", "1 0"), ("P", "0 'k #0"), ("C", "1 #0"),
     ("T", "0 1 1 1"), ("H", "0 0 'k #0"), ("X", "2 'x 0 #0"), ("Y", "2 'y 0 #0"),
 ];
 
@@ -351,10 +367,10 @@ type Kind = (&'static str, &'static str, usize, &'static [&'static str], &'stati
 
 const KINDS: [Kind; 9] = [
     ("c", "c: @", 0, &["#0", "\"(ok)", "\"a;|\"~"], &["#1 10", "#2 97 127"]),
-    ("d", "d: @", 0, &["'D 2 0 #2 'c #0 'd #2 'f 6 1 0 'g 11 'D #0", "N 1 0 #1 N #1 N S"], &["N 0 0 #0"]),
-    ("k", "k: @", 0, &["N S"], &["N 4 S"]),
-    ("f", "f: @", 0, &["'g 0 1 #1 0 1 0", "N 0 0 #1 S S 1 #1 N E"], &["N 0 0 #1 S S 1 #0 E", "N 0 0 #0 S 1 #1 N E"]),
-    ("v", "v: @", 0, &["'k #0", "N #2 1 S"], &["N #1 5 *4"]),
+    ("d", "d: @", 0, &["'D 2 0 #2 'c #0 'd #2 'f 6 1 0 'g 11 'D #0", "N 1 0 #1 M #1 M S"], &["N 0 0 #0"]),
+    ("k", "k: @", 0, &["M S"], &["M 4 S"]),
+    ("f", "f: @", 0, &["'g 0 1 #1 0 1 0", "M 0 0 #1 S S 1 #1 N E"], &["M 0 0 #1 S S 1 #0 E", "M 0 0 #0 S 1 #1 N E"]),
+    ("v", "v: @", 0, &["'k #0", "M #2 1 S"], &["M #1 5 *4"]),
     ("S", "k: 'c @", 1, &["0", "1", "2", "3", "4 5 8 *3", "6 1 0", "7 S S", "8 1 0 S", "9 #0", "9 #1 S", "10 #2 0 S", "11 'D #0",
         "11 N #1 S"], &["5 8 *3", "4 0", "4 4 5 *4"]),
     ("E", "h: 0 1 @", 3, &["0 *16", "1 0", "2 *4", "3 #0", "3 #2 32 126", "3 #2 34 34", "4 *20", "5 N", "7 E", "8 E", "9 4 E E", "10 5 E E",
@@ -407,7 +423,7 @@ fn rich() -> Vec<Vec<String>> {
 // ---- The cases
 
 #[derive(Default)]
-struct Cases { stdin: Vec<u8>, stdout: String, counts: [usize; 15] }
+struct Cases { stdin: Vec<u8>, stdout: String, counts: [usize; 16] }
 
 impl Cases {
     fn answer(&mut self, file: &[u8]) -> Answer<(usize, usize)> {
@@ -518,7 +534,7 @@ fn codes(cases: &mut Cases) {
 
 fn names(cases: &mut Cases) {
     let long = format!("'{}", "a".repeat(255));
-    for (i, place) in places("N", false).iter().chain(&places("B", false)).enumerate() {
+    for (i, place) in ["N", "M", "B"].iter().flat_map(|piece| places(piece, false)).enumerate() {
         cases.no(2, &place.with(1, "0"));
         cases.no(4, &place.with(1, ["'1z", "'par"][i % 2]));
         if i % 4 == 0 {
@@ -568,7 +584,7 @@ fn faults(cases: &mut Cases) {
         // ForAlls
         (Err(7), "h: X X H"), (Err(7), "h: X X C"), (Err(7), "h: X Y X T"), (Err(7), "h: X 1 #2 T Y 1 #2 C X T"),
         (Err(7), "h: 1 #3 X C Y Y C T"), (Ok((0, 1)), "h: 1 #3 X C X T Y X H"), (Ok((0, 0)), "h: Y 1 #2 X C X T"),
-        (Ok((0, 0)), "h: X 2 'xx S #0 2 'X S #0 C"), (Ok((0, 1)), "h: X 0 1 20 0 #1 'x S 16 'x E E"), (Ok((2, 0)), "k: 'x S 'x S h: X C"),
+        (Ok((0, 0)), "h: X 2 'xx S #0 2 'X S #0 C"), (Ok((0, 1)), "h: X 0 1 20 0 #1 'x S 16 'x E E"), (Ok((2, 0)), "k: 'c S 'c S h: X C"),
         // Several faults: the first judged is answered, wherever it stands
         (Err(4), "k: 'c 5 *4 F h: X X 0 0 'let #0"), (Err(4), "c: #1 10 F h: X X C"), (Err(4), "f: 'f *2 #1 S S 1 #0 5 '1"),
         (Err(4), "h: X X 0 0 'let #0"), (Err(4), "h: 2 'as S #0 2 'as S #0 C"), (Err(4), "k: 'c 4 11 'par #0"), (Err(12), "F v: 'k #1 4 0"),
@@ -581,16 +597,63 @@ fn faults(cases: &mut Cases) {
 
 const WRONG_ARGUMENTS: &str = "f: 'f *2 #1 S S 1 #0 E";
 
-/// Two faults in one file, in both orders of place wherever both can be had: expressions stand behind all datatypes and ForAlls behind all else.
+/// A file for each kind of declared name, with `@` for the name, and the number of its declarations.
+const NAMED: [(&str, usize); 8] = [
+    ("k: @ S", 1), ("k: 'a S @ S 'b S", 3), ("f: @ *2 #0 S 0", 1), ("f: @ *2 #1 S S 1 #1 'y E", 1), ("d: 'D *2 #2 'c #0 @ #0", 1),
+    ("d: 'A *2 #1 'a #0 'D *2 #1 'c #2 'f 0 @ S", 2), ("v: @ #0", 1), ("k: 'a S v: 'k #0 @ #1 S", 3),
+];
+
+/// ForAlls named like something declared.
+fn clashes(cases: &mut Cases) {
+    let long = "a".repeat(255);
+    for (words, declarations) in NAMED {
+        let with = |name: &str, constraint: &str| format!("{} h: {constraint}", words.replace('@', &format!("'{name}")));
+        // With a head under it and without, in the last member of a Conj in a Conj, around another, deep below others
+        let below: String = (0..254).map(|i| format!("2 'x{i} S #0 ")).collect();
+        for constraint in ["X H", "X C", "X T", "1 #2 H X H", "1 #2 Y C 1 #3 C T Y 1 #1 X C", "X Y H", "2 'x S #1 P Y C", &format!("{below} X C")] {
+            cases.no(15, &with("x", constraint));
+        }
+        // Names that differ: by a byte more or less, in case, in the last of two or of 255 bytes
+        let other = format!("{}b", &long[1..]);
+        for (name, binder) in [("x", "xx"), ("xx", "x"), ("x", "X"), ("xy", "xz"), ("BB", "Aa"), (&long, &other), (&long, &long[1..])] {
+            cases.is(Ok((declarations, 1)), &with(name, &format!("2 '{binder} S #0 H")));
+        }
+        cases.no(15, &with(&long, &format!("2 '{long} S #0 H")));
+        // 7 comes first, wherever it stands
+        ["X X C", "X Y Y C", "1 #2 X C Y Y C", "1 #2 Y Y C X C"].iter().for_each(|constraint| cases.no(7, &with("x", constraint)));
+    }
+    for (expected, words) in [
+        // The merge task
+        (Err(15), "k: 'lim 0 h: 2 'x 0 #1 1 10 4 5 'x 5 'lim 2 'lim 0 #0 0 1 10 3 5 'lim 5 'x"),
+        // Other names do not count: of a datatype, an argument, a Let, a Quantifier, and where a name is used
+        (Ok((1, 1)), "d: 'x *2 #1 'c #0 h: X H"), (Ok((1, 1)), "f: 'f *2 #1 S S 1 #1 'x E h: X H"),
+        (Ok((1, 1)), "f: 'f *2 #0 S 1 #0 16 'x E 5 'x h: X H"), (Ok((1, 1)), "f: 'f *2 #0 S 1 #0 20 0 #1 'x S 5 'x h: X H"),
+        (Ok((0, 1)), "h: X 0 1 16 'x E E"), (Ok((0, 1)), "h: X 0 1 20 1 #2 'y S 'x S E"), (Ok((0, 1)), "h: 2 'x S #1 0 'x #0 0 0 'x #1 5 'x"),
+        (Ok((1, 1)), "k: 'c 11 'x #0 h: X H"), (Ok((0, 1)), "h: X 0 1 19 'x E"), (Ok((2, 1)), "k: 'k S v: 'k #0 h: X H"),
+        // Declared names as those of a Let, a Quantifier and an argument
+        (Ok((1, 1)), "k: 'c S h: X 0 1 16 'c E 20 0 #1 'c S E"), (Ok((2, 0)), "k: 'c S f: 'f *2 #1 S S 1 #1 'c E"),
+        (Err(15), "d: 'x *2 #1 'x #0 h: X C"), (Err(15), "d: 'x *2 #1 'c #0 v: 'x #0 h: X C"), (Err(15), "k: 'x S 'x S h: X C"),
+        // Reading comes first
+        (Err(2), "k: 'x S h: X 3"), (Err(2), "k: 'x S h: X C 0"), (Err(2), "k: 'x S 'y h: X C"),
+    ] {
+        cases.is(expected, words);
+    }
+}
+
+/// Two faults in one file, in both orders of place wherever both can be had: expressions stand behind all datatypes and ForAlls behind all else;
+/// the place of 15 is the ForAll or the declaration.
 fn pairs(cases: &mut Cases) {
     let front = [(4, "c: #1 10"), (5, "d: 'D *2 #0"), (12, "k: 'c 5 *4"), (13, "f: 'g *2 #0 S 1 #0 18 38"), (14, "f: 'g *2 #0 S 1 #0 6"),
         (6, WRONG_ARGUMENTS)];
     let behind = [(4, "h: 0 0 'let #0"), (12, "h: 2 'x 5 *4 #0 C"), (13, "h: 0 1 18 45"), (14, "h: 0 1 6"), (7, "h: X X C"),
-        (6, WRONG_ARGUMENTS)];
+        (15, "v: 'x #0 h: X C"), (6, WRONG_ARGUMENTS)];
     let apart = front.iter().flat_map(|a| behind.iter().map(move |b| (a.0, b.0, format!("{} {}", a.1, b.1))));
     let beside = [
         (4, 5, "c: #1 10 d: 'D *2 #0"), (4, 5, "d: 'as *2 #1 'a #0 'D *2 #0"), (12, 5, "d: 'A *2 #1 'a #1 'f 5 *4 'D *2 #0"),
         (7, 4, "h: X X 0 1 5 'let"), (7, 12, "h: X 2 'x 4 0 #0 C"), (7, 13, "h: X X 0 1 18 38"), (7, 14, "h: X X 0 1 6"),
+        (15, 4, "k: 'x S h: X 0 1 5 'let"), (15, 5, "d: 'A *2 #1 'x #0 'D *2 #0 h: X C"), (15, 12, "k: 'x S h: X 2 'y 4 0 #0 C"),
+        (15, 13, "k: 'x S h: X 0 1 18 38"), (15, 14, "k: 'x S h: X 0 1 6"), (15, 6, "f: 'x *2 #0 S 0 'f *2 #1 S S 1 #0 E h: X C"),
+        (15, 7, "k: 'x S h: X Y Y C"), (7, 15, "k: 'x S h: Y Y X C"),
     ];
     for (a, b, words) in apart.chain(beside.map(|(a, b, words)| (a, b, words.to_string()))) {
         cases.no(*JUDGED.iter().find(|refusal| [a, b].contains(refusal)).expect("judged"), &words);
@@ -661,7 +724,7 @@ fn last_levels(cases: &mut Cases) {
 fn first_met(cases: &mut Cases) {
     for (refusal, words) in [
         (2, "h: 1 #2 3 @"), (3, "h: 1 #2 @ 3"), (3, "h: @ C 0"), (3, "k: 'c % h: 3"), (2, "c: #2 97 k: 'c %"), (2, "k: 'c 12 h: @"),
-        (3, "c: #1 10 k: 'c 5 *4 h: @"), (3, "h: X X @"), (2, "h: C @"),
+        (3, "c: #1 10 k: 'c 5 *4 h: @"), (3, "h: X X @"), (3, "k: 'x S h: X @"), (2, "h: C @"),
     ] {
         cases.no(refusal, &words.replace('@', &"1 #1 ".repeat(256)).replace('%', &"9 #1 ".repeat(256)));
     }
@@ -698,6 +761,7 @@ impl Maker {
         let spoilt = self.spoil.contains(letter) && self.chance.below(3) == 0;
         match letter {
             "N" => return if spoilt { "'0" } else { ["'x", "'k0", "'Cons", "'<=>", "'b0"][self.chance.below(5)] }.to_string(),
+            "M" => return if spoilt { "'b0" } else { ["'x", "'k0", "'Cons", "'<=>"][self.chance.below(4)] }.to_string(),
             "B" => return format!("'b{}", if spoilt { 0 } else { around }),
             "S" | "E" | "P" | "C" | "c" | "d" | "k" | "f" | "v" => {}
             _ => return letter.to_string(),
@@ -744,7 +808,8 @@ fn by_chance(cases: &mut Cases) {
         }
         let _ = cases.answer(&file);
     }
-    for spoil in ["c", "d", "f", "B", "N", "S", "E", "P", "fB", "fB", "fE", "NB", "dkvSEB", "cdkfvNSEPB"].repeat(3) {
+    for spoil in ["c", "d", "f", "B", "N", "S", "E", "P", "fB", "fB", "fE", "NB", "dkvSEB", "cdkfvNSEPB", "M", "M", "MB",
+        "fM", "NM", "SEM", "dkfvMB"].repeat(3) {
         maker.spoil = spoil;
         let _ = cases.answer(&joined(&maker.task().0));
     }
@@ -753,7 +818,7 @@ fn by_chance(cases: &mut Cases) {
 fn main() -> io::Result<()> {
     let directory = env::args().nth(1).expect("the directory to write into");
     let mut cases = Cases::default();
-    [limits, codes, names, faults, pairs, levels, last_levels, first_met, cuts, by_chance].iter().for_each(|group| group(&mut cases));
+    [limits, codes, names, faults, clashes, pairs, levels, last_levels, first_met, cuts, by_chance].iter().for_each(|group| group(&mut cases));
     let (counts, files) = (cases.counts, cases.stdout.lines().count());
     let refused = [1, 2, 3].iter().chain(&JUDGED).map(|refusal| (*refusal, counts[*refusal as usize]));
     eprintln!("{files} files: accepted {}, refused {:?}", counts[0], refused.clone().collect::<Vec<_>>());

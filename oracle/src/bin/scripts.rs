@@ -31,7 +31,7 @@ fn hornscript(answer: &Answer<Rendering>) -> String {
 
 /// `counts` has the number of accepted files at 0, and at each other number that of the files refused with it.
 #[derive(Default)]
-struct Cases { stdin: Vec<u8>, stdout: String, counts: [usize; 15] }
+struct Cases { stdin: Vec<u8>, stdout: String, counts: [usize; 16] }
 
 impl Cases {
     fn add(&mut self, file: &[u8]) -> Answer<Rendering> {
@@ -151,6 +151,12 @@ const DECLARATIONS: &[(&str, &str)] = &[
     ("(declare-fun k (Int) Bool)\n(declare-fun k1 (Bool Int Real) Bool)", "v: 'k #1 0 'k1 #3 1 0 2"),
     ("(declare-datatypes ((D 0)) (((d))))\n(declare-const c D)\n(declare-fun f () D)\n(declare-fun k (D) Bool)\n(assert (=> true k))",
         "c: \"all d: 'D #0 #1 'd #0 k: 'c 11 'D #0 f: 'f #0 #0 11 'D #0 0 v: 'k #1 11 'D #0 h: 0 K"),
+    // A ForAll named like a datatype or an argument, or nearly like a constant; a Let and a Quantifier named like one
+    ("(declare-datatypes ((x 0)) (((c))))\n(assert (forall ((x x)) (=> true k)))", "d: 'x #0 #1 'c #0 h: 2 'x 11 'x #0 #0 0 K"),
+    ("(define-fun f ((x Int)) Int x)\n(assert (forall ((x Int)) (=> true k)))", "f: 'f #0 #1 0 0 1 #1 'x 5 'x h: X 0 K"),
+    ("(declare-const xx Int)\n(declare-const X Int)\n(assert (forall ((x Int)) (=> true k)))", "k: 'xx 0 'X 0 h: X 0 K"),
+    ("(declare-const c Int)\n(assert (forall ((x Int)) (=> (not (let ((c x)) (exists ((c Int)) c))) false)))",
+        "k: 'c 0 h: X 0 1 16 'c 5 'x 20 0 #1 'c 0 5 'c"),
 ];
 
 fn declarations(cases: &mut Cases) {
@@ -234,7 +240,7 @@ const ASSERTIONS: &[(&str, &str)] = &[
     ("(=> (not \"\"\"\") false)", "h: 0 1 3 \"\""), ("(=> (not \"\"\"\"\"\") false)", "h: 0 1 3 \"\"\""),
     ("(=> (not (= \"a\"\"b\" \"\"\"a\"\"\")) false)", "h: 0 1 10 0 3 \"a\"b 3 \"\"a\""),
     ("x: (=> \"\"\")(check-sat)(\"\"\" (k \"\"\"\"))", "h: 2 'x S #1 1 3 \"\")(check-sat)(\" 0 0 'k #1 3 \"\""),
-    // Names: an expression may bind a ForAll's, a ForAll may be called as something declared
+    // Names: an expression may bind a ForAll's, a ForAll may be called as a KVar that is not declared
     ("x: (=> (not (exists ((x Bool)) (let ((x x)) x))) false)", "h: X 0 1 20 0 #1 'x 1 16 'x 5 'x 5 'x"),
     ("xk: (=> true k)", "h: X 2 'k 0 #0 0 K"),
     ("(forall ((true Int)(false Int)(X Int)(x Int)) (=> true k))", "h: 2 'true 0 #0 2 'false 0 #0 2 'X 0 #0 X 0 K"),
@@ -254,6 +260,8 @@ fn assertions(cases: &mut Cases) {
     let (long, other) = ("a".repeat(255), "a".repeat(254) + "b");
     cases.is(&format!("(assert (forall (({long} Int)({other} Int)) (=> {other} ({long} {other}))))"),
         &format!("h: 2 '{long} S #0 2 '{other} S #1 1 5 '{other} 0 0 '{long} #1 5 '{other}"));
+    cases.is(&format!("(declare-fun {long} () Bool)\n(assert (forall (({other} Int)) (=> true k)))"),
+        &format!("v: '{long} #0 h: 2 '{other} S #0 0 K"));
 }
 
 fn large(cases: &mut Cases) {
@@ -336,7 +344,10 @@ fn refusals(cases: &mut Cases) {
         (13, &["h: 0 1 18 38", "h: 0 1 18 45", "h: 0 1 17 0 18 45 #1 E", "h: 1 #2 0 1 6 0 1 17 1 0 18 38 #1 18 38"]),
         (14, &["h: 0 1 6", "h: 2 'x S #1 1 6 0 T", "f: 'f #0 #0 0 1 #1 'x 6", "f: 'f #0 #1 0 0 1 #0 E h: X X 0 1 6"]),
         (6, &["f: 'f #0 #1 0 0 1 #0 E", "f: 'f #0 #0 0 1 #1 'x E", "f: 'f #0 #2 0 0 0 1 #1 'x E h: X X 0 K"]),
-        (7, &["h: X X 0 K", "h: X Y X 0 T", "h: X Y Y 0 K", "h: X Y Z Y C", "h: X 1 #2 0 K Y 1 #1 X C", "h: 1 #2 X 0 K Y Z Y 0 K"]),
+        (7, &["h: X X 0 K", "h: X Y X 0 T", "h: X Y Y 0 K", "h: X Y Z Y C", "h: X 1 #2 0 K Y 1 #1 X C", "h: 1 #2 X 0 K Y Z Y 0 K",
+            "k: 'x 0 h: X Y Y 0 K", "k: 'x 0 h: 1 #2 Y Y 0 K X 0 K"]),
+        (15, &["k: 'x 0 h: X 0 K", "f: 'x #0 #0 0 0 h: X 0 K", "d: 'D #0 #1 'x #0 h: X 0 K", "d: 'D #0 #1 'c #1 'x 0 h: X 0 K",
+            "v: 'x #0 h: X 0 K", "k: 'a 0 'x 0 'b 0 h: 1 #2 0 K Y 1 #2 C X C", "d: 'x #0 #1 'x #0 h: Y X 0 T"]),
     ] {
         files.iter().for_each(|words| cases.no(refusal, words));
     }
@@ -344,23 +355,27 @@ fn refusals(cases: &mut Cases) {
     cases.no(3, &format!("h: {} C", "1 #1 ".repeat(256)));
     cases.no(3, &format!("h: 0 1 {}", "8 ".repeat(254)));
     cases.no(14, &format!("h: X X 0 1 {} 6", "8 ".repeat(251)));
+    cases.no(15, &format!("k: 'x253 0 h: {}", nested(254, "C")));
+    cases.no(15, &format!("v: '{0} #0 h: 2 '{0} 0 #0 0 K", "a".repeat(255)));
 }
 
 const DESK: &str = include_str!("../../../docs/REFUSALS.md");
 
-/// The examples of docs/REFUSALS.md for the program: bytes of one section, which stand there between backquotes under the number.
-const EXAMPLES: [(u8, &str, &str); 10] = [
-    (4, "h:", "0 1 5 1 40"), (5, "d:", "1 68 0 0 0 0"), (12, "k:", "1 99 4 0"), (12, "k:", "1 99 5 8 0 0 0"), (13, "h:", "0 1 18 38"),
-    (13, "h:", "0 1 17 0 18 45 0 0"), (14, "h:", "0 1 6"), (6, "f:", "1 102 0 0 0 0 0 1 1 0 1 120 1 1"),
-    (7, "h:", "2 1 120 0 0 0 2 1 120 0 0 0 1 0 0"), (9, "d:", "1 100 255 255 1 0 1 99 0 0"),
+/// The examples of docs/REFUSALS.md for the program: sections by their bytes, which stand there between backquotes under the number.
+const EXAMPLES: [(u8, &[&str]); 11] = [
+    (4, &["h: 0 1 5 1 40"]), (5, &["d: 1 68 0 0 0 0"]), (12, &["k: 1 99 4 0"]), (12, &["k: 1 99 5 8 0 0 0"]), (13, &["h: 0 1 18 38"]),
+    (13, &["h: 0 1 17 0 18 45 0 0"]), (14, &["h: 0 1 6"]), (6, &["f: 1 102 0 0 0 0 0 1 1 0 1 120 1 1"]),
+    (7, &["h: 2 1 120 0 0 0 2 1 120 0 0 0 1 0 0"]),
+    (15, &["k: 3 108 105 109 0", "h: 2 1 120 0 1 0 1 10 4 5 1 120 5 3 108 105 109 2 3 108 105 109 0 0 0 0 1 10 3 5 3 108 105 109 5 1 120"]),
+    (9, &["d: 1 100 255 255 1 0 1 99 0 0"]),
 ];
 
 fn examples(cases: &mut Cases) {
-    for (refusal, section, bytes) in EXAMPLES {
+    for (refusal, sections) in EXAMPLES {
         let (_, behind) = DESK.split_once(&format!("\n## {refusal}: ")).expect("a heading");
         let example = behind.split_once("\n## ").expect("another heading").0.split_once("- Example").expect("an example").1;
-        assert!(example.contains(&format!("`{bytes}`")), "{refusal}: {bytes}");
-        let answer = cases.add(&packed(&format!("{section} {bytes}")));
+        sections.iter().for_each(|section| assert!(example.contains(&format!("`{}`", &section[3..])), "{refusal}: {section}"));
+        let answer = cases.add(&packed(&sections.join(" ")));
         assert_eq!(hornscript(&answer), format!("refused {refusal}\n"));
     }
     // A comment with `x`, a line feed and a command
@@ -374,13 +389,14 @@ fn examples(cases: &mut Cases) {
 
 // ---- Cases by chance
 
-/// Forms of each kind of piece; capital letters stand for pieces. `N` is a name, `B` a ForAll's, `U` and `Q` numbers of 4 and 16 bytes.
+/// Forms of each kind of piece; capital letters stand for pieces. `N` is a name, `M` one that no ForAll may have, `B` a ForAll's, `U` and `Q`
+/// numbers of 4 and 16 bytes.
 const FORMS: [(&str, &[&str]); 9] = [
     ("c", &["#0", "\"(ok)", "\"a;|\"~"]),
-    ("d", &["'List #1 #2 'nil #0 'cons #2 'head 6 #0 'tail 11 'List #1 6 #0", "N #0 #1 N #0", "N #2 #2 N #2 N S N S N #1 N S"]),
-    ("k", &["N S"]),
-    ("f", &["N #1 #2 S S S 0", "N #0 #0 S 0", "N #0 #2 S S S 1 #2 N N E", "N #9 #0 S 1 #0 E"]),
-    ("v", &["N #0", "N #1 S", "N #3 S S S"]),
+    ("d", &["'List #1 #2 'nil #0 'cons #2 'head 6 #0 'tail 11 'List #1 6 #0", "N #0 #1 M #0", "N #2 #2 M #2 M S M S M #1 M S"]),
+    ("k", &["M S"]),
+    ("f", &["M #1 #2 S S S 0", "M #0 #0 S 0", "M #0 #2 S S S 1 #2 N N E", "M #9 #0 S 1 #0 E"]),
+    ("v", &["M #0", "M #1 S", "M #3 S S S"]),
     ("S", &["0", "1", "2", "3", "4 5 U", "6 #1", "7 S S", "8 #2 S", "9 #0", "9 #1 S", "10 #2 S S", "11 N #0", "11 N #1 S",
         "11 'List #1 S"]),
     ("E", &["0 Q", "1 0", "1 1", "2 U", "3 #0", "3 #3 32 40 126", "3 #3 34 97 34", "4 Q U", "5 N", "5 N", "7 E", "8 E", "9 0 E E", "9 3 E E",
@@ -391,6 +407,9 @@ const FORMS: [(&str, &[&str]); 9] = [
     ("C", &["0 P", "1 #0", "1 #2 C C", "1 #3 C C C", "2 B S #0 C", "2 B S #1 P C", "2 B S #3 P P P C"]),
 ];
 
+/// The last is that of a ForAll.
+const NAMES: [&str; 9] = ["'x", "'k0", "'cons", "'nil", "'List", "'Color", "'<=>", "'true", "'b0"];
+
 /// A piece in words, at most `depth` deep in its kind, under as many ForAlls as `around` says.
 fn piece(chance: &mut Chance, letter: &str, depth: usize, around: usize) -> String {
     let size = match letter { "U" => 4, "Q" => 16, _ => 0 };
@@ -399,7 +418,7 @@ fn piece(chance: &mut Chance, letter: &str, depth: usize, around: usize) -> Stri
         return (0..size).map(|i| format!("{} ", if i < used { chance.below(256) } else { 0 })).collect();
     }
     match letter {
-        "N" => return ["'x", "'k0", "'cons", "'nil", "'List", "'Color", "'<=>", "'true", "'b0"][chance.below(9)].to_string(),
+        "N" | "M" => return NAMES[chance.below(NAMES.len() - (letter == "M") as usize)].to_string(),
         "B" => return format!("'b{around}"),
         _ => {}
     }

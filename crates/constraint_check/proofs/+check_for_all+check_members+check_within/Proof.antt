@@ -12,7 +12,7 @@ use Rattle.path.proofs.Entries.{leaves-pushed, leaves-fewer}
 use Rattle.constraint_check.specs.Tally.{tally}
 use Rattle.constraint_check.specs.Around.{namesOn}
 use Rattle.constraint_check.proofs.Names.{head-stands, name-offset}
-use Rattle.constraint_check.proofs.Constraints.{constraint-none, constraint-pred, constraint-conj, constraint-for-all, constraint-refused, constraint-head, for-all-unnamed, for-all-sort-stops, for-all-uncounted, for-all-preds-stop, for-all-walks, Going, going-starts, going-stops, going-room, going-goes, going-ends}
+use Rattle.constraint_check.proofs.Constraints.{constraint-none, constraint-pred, constraint-conj, constraint-for-all, constraint-refused, constraint-head, for-all-unnamed, for-all-stops, for-all-walks, Going, going-starts, going-stops, going-room, going-goes, going-ends}
 use borrow.Author.Needs.{needs}
 use borrow.Fn.Kinds.{In}
 use borrow.Fn.PlainCycle.{Measures, is, falls, and}
@@ -25,18 +25,15 @@ use Rattle.constraint_check.proofs.+check_for_all+check_members+check_w
 use Rattle.constraint_check.proofs.check_within.Reads as check-within
 use Rattle.constraint_check.proofs.check_within.Kinds as check-within-kinds
 use Rattle.constraint_check.proofs.+check_for_all+check_members+check_within.Lts-check_within as check-within-lts
-use Rattle.constraint_check.proofs.binder_fault.Reads as binder-fault-reads
 use Rattle.constraint_check.proofs.check_head.Reads as check-head-reads
+use Rattle.constraint_check.proofs.check_header.Reads as check-header-reads
 use Rattle.constraint_check.proofs.is_head.Reads as is-head-reads
 use Rattle.constraint_check.proofs.refused.Reads as refused-reads
 use Rattle.constraint_check.proofs.shadow_fault.Reads as shadow-fault-reads
 use Rattle.path.proofs.Path.push.Reads as push-reads
-use Rattle.task.proofs.number_at.Reads as number-at-reads
 use Rattle.task.proofs.read_constraint_node.Reads as read-constraint-node-reads
 use Rattle.task.proofs.read_name.Reads as read-name-reads
 use Rattle.task_check.proofs.after.Reads as after-reads
-use Rattle.task_check.proofs.check_preds.Reads as check-preds-reads
-use Rattle.task_check.proofs.check_sort.Reads as check-sort-reads
 use Rattle.task_check.proofs.lower.Reads as lower-reads
 use Rattle.constraint_check.proofs.+check_for_all+check_members+check_within.{statement}
 use Rattle.constraint_check.proofs.+check_for_all+check_members+check_within.Tie.{close}
@@ -88,7 +85,7 @@ check-within-below t =
 
 -- what the calls in it ask and give
 abbrev check-for-all-calls : ℕ → check-for-all-lts.Claims
-check-for-all-calls t = (read-name-reads.Asked, read-name-reads.Learnt, refused-reads.Asked, refused-reads.Learnt, check-sort-reads.Asked, check-sort-reads.Learnt, number-at-reads.Asked, number-at-reads.Learnt, check-preds-reads.Asked, check-preds-reads.Learnt, shadow-fault-reads.Asked, shadow-fault-reads.Learnt, lower-reads.Asked, lower-reads.Learnt, binder-fault-reads.Asked, binder-fault-reads.Learnt, push-reads.Asked, push-reads.Learnt, check-within-below t, check-within.Post, after-reads.Asked, after-reads.Learnt)
+check-for-all-calls t = (read-name-reads.Asked, read-name-reads.Learnt, refused-reads.Asked, refused-reads.Learnt, check-header-reads.Asked, check-header-reads.Learnt, shadow-fault-reads.Asked, shadow-fault-reads.Learnt, push-reads.Asked, push-reads.Learnt, check-within-below t, check-within.Post, lower-reads.Asked, lower-reads.Learnt, after-reads.Asked, after-reads.Learnt)
 
 -- what the calls in it ask and give
 abbrev check-members-calls : ℕ → check-members-lts.Claims
@@ -102,25 +99,19 @@ check-for-all-returns : (t : ℕ) → check-for-all-lts.Need-returns (check-for-
 check-for-all-returns t c = search for-all-unnamed
 
 check-for-all-returns-2 : (t : ℕ) → check-for-all-lts.Need-returns-2 (check-for-all-calls t) (check-for-all-at t) check-for-all.Post
-check-for-all-returns-2 t c = search for-all-sort-stops
-
-check-for-all-returns-3 : (t : ℕ) → check-for-all-lts.Need-returns-3 (check-for-all-calls t) (check-for-all-at t) check-for-all.Post
-check-for-all-returns-3 t c = search for-all-uncounted
-
-check-for-all-returns-4 : (t : ℕ) → check-for-all-lts.Need-returns-4 (check-for-all-calls t) (check-for-all-at t) check-for-all.Post
-check-for-all-returns-4 t c = search for-all-preds-stop
+check-for-all-returns-2 t c = search for-all-stops
 
 check-for-all-shadow-fault-requires : (t : ℕ) → check-for-all-lts.Need-shadow-fault-requires (check-for-all-calls t) (check-for-all-at t) check-for-all.Post
-check-for-all-shadow-fault-requires t c κs = leaves-fewer _ _ 0 (omega arith) (c .before .before .before .before .before .before .before .before .before .before .before .before .before .before .before .before .before .pre .1 .0)
+check-for-all-shadow-fault-requires t c κs = leaves-fewer _ _ 0 (omega arith) (c .before .before .before .before .before .before .before .before .before .pre .1 .0)
 
 check-for-all-push-requires : (t : ℕ) → check-for-all-lts.Need-push-requires (check-for-all-calls t) (check-for-all-at t) check-for-all.Post
-check-for-all-push-requires t c κs = let w = c .before .before .before .before .before .before .before .before .before .before .before .before .before .before .before .before .before .before .before .before .pre .1 .0 .within in (omega arith, name-offset _ _ _ (c .before .before .before .before .before .before .before .before .before .before .before .before .before .before .before .before .before .before .read-name .ensures) _ _ (c .before .before .before .before .before .before .before .before .before .before .before .before .before .before .before .before .name .given .1) (c .before .before .before .before .before .before .before .before .before .before .before .before .before .before .before .before .before .before .before .before .pre .1 .1))
+check-for-all-push-requires t c κs = let w = c .before .before .before .before .before .before .before .before .before .before .pre .1 .0 .within in (omega arith, name-offset _ _ _ (c .before .before .before .before .before .before .before .before .read-name .ensures) _ _ (c .before .before .before .before .before .before .name .given .1) (c .before .before .before .before .before .before .before .before .before .before .pre .1 .1))
 
 check-for-all-check-within-requires : (t : ℕ) → check-for-all-lts.Need-check-within-requires (check-for-all-calls t) (check-for-all-at t) check-for-all.Post
-check-for-all-check-within-requires t c κs = let m = c .before .before .before .before .before .before .before .before .before .before .before .before .before .before .before .before .before .before .before .before .before .pre .0 in (omega arith, (leaves-pushed _ _ _ _ (c .before .before .before .before .before .before .before .before .before .before .before .before .before .before .before .before .before .before .before .before .before .pre .1 .0) (c .push .ensures), c .before .before .before .before .before .before .before .before .before .before .before .before .before .before .before .before .before .before .before .before .before .pre .1 .1))
+check-for-all-check-within-requires t c κs = let m = c .before .before .before .before .before .before .before .before .before .before .before .pre .0 in (omega arith, (leaves-pushed _ _ _ _ (c .before .before .before .before .before .before .before .before .before .before .before .pre .1 .0) (c .push .ensures), c .before .before .before .before .before .before .before .before .before .before .before .pre .1 .1))
 
-check-for-all-returns-5 : (t : ℕ) → check-for-all-lts.Need-returns-5 (check-for-all-calls t) (check-for-all-at t) check-for-all.Post
-check-for-all-returns-5 t c = for-all-walks _ _ (entries (c .before .before .before .before .before .before .before .before .before .before .before .before .before .before .before .before .before .before .before .before .before .before .before .args .path)) _ _ (c .before .before .before .before .before .before .before .before .before .before .before .before .before .before .before .before .before .before .before .before .before .read-name .ensures) _ _ (c .before .before .before .before .before .before .before .before .before .before .before .before .before .before .before .before .before .before .before .name .given .1) _ (c .before .before .before .before .before .before .before .before .before .before .before .before .before .before .before .before .before .check-sort .ensures) _ _ (c .before .before .before .before .before .before .before .before .before .before .before .before .before .before .before .sort .given .1) _ (c .before .before .before .before .before .before .before .before .before .before .before .before .before .number-at .ensures) _ _ (c .before .before .before .before .before .before .before .before .before .before .before .count .given .1) _ (c .before .before .before .before .before .before .before .before .before .check-preds .ensures) _ _ _ _ _ _ _ _ (c .before .before .before .before .before .before .before .preds .given .1) (c .before .before .push .ensures .0) (c .before .check-within .ensures) (c .before .before .before .before .lower .ensures) (c .before .before .before .before .before .shadow-fault .ensures) (c .before .before .before .binder-fault .ensures) (c .after .ensures)
+check-for-all-returns-3 : (t : ℕ) → check-for-all-lts.Need-returns-3 (check-for-all-calls t) (check-for-all-at t) check-for-all.Post
+check-for-all-returns-3 t c = for-all-walks _ _ (entries (c .before .before .before .before .before .before .before .before .before .before .before .before .before .before .args .path)) _ _ (c .before .before .before .before .before .before .before .before .before .before .before .before .read-name .ensures) _ _ (c .before .before .before .before .before .before .before .before .before .before .name .given .1) _ (c .before .before .before .before .before .before .before .before .check-header .ensures) _ _ _ _ _ _ _ (c .before .before .before .before .before .before .header .given .1) (c .before .before .before .push .ensures .0) (c .before .before .check-within .ensures) (c .before .before .before .before .shadow-fault .ensures) (c .before .lower .ensures) (c .after .ensures)
 
 abbrev check-members-Inv-loop : check-members-lts.InvT-loop
 check-members-Inv-loop s at n levels path p₀ left₀ fault₀ heads₀ p left fault heads = Going s levels (namesOn s (entries path)) n at left p fault heads
@@ -192,22 +183,12 @@ pub +check-for-all+check-members+check-within-spec : {M : Type 1} → statement 
     (λ c. search needs)
     (λ c. search needs)
     (check-for-all-returns-2 t)
-    (λ c κs. search needs)
-    (λ c. search needs)
-    (λ c. search needs)
-    (λ c κs. search needs)
-    (check-for-all-returns-3 t)
-    (λ c κs. search needs)
-    (λ c. search needs)
-    (λ c. search needs)
-    (check-for-all-returns-4 t)
     (check-for-all-shadow-fault-requires t)
-    (λ c κs. search needs)
-    (λ c κs. search needs)
     (check-for-all-push-requires t)
     (check-for-all-check-within-requires t)
     (λ c κs. search needs)
-    (check-for-all-returns-5 t))
+    (λ c κs. search needs)
+    (check-for-all-returns-3 t))
     (λ t. check-members-lts.spec (check-members-calls t) (check-members-at t)
     check-members.Post
     check-members-Inv-loop

@@ -10,7 +10,7 @@ use Rattle.assertion.specs.Under.{onPath}
 use Rattle.assertion.specs.Kept.{Stays}
 use Rattle.assertion.proofs.Keeping.{stays-same, stays-then, keeps-stays}
 use Rattle.flatten.specs.Parts.{writing}
-use Rattle.flatten.proofs.Flattening.{none-left, node-pred, node-conj, node-for-all, node-refused, Members, members-start, members-more, members-end, for-all-unbound, for-all-uncounted, for-all-unheld, for-all-puts, binder-offset, light-stands, light-puts, ready-fewer, ready-stays, ready-pushed, stays-inside}
+use Rattle.flatten.proofs.Flattening.{none-left, node-pred, node-conj, node-for-all, node-refused, Members, members-start, members-more, members-end, for-all-unheaded, for-all-puts, header-offset, light-stands, light-puts, ready-fewer, ready-stays, ready-pushed, stays-inside}
 use Prim.Native.Nat.{ℕ, _<_}
 use borrow.Fn.Kinds.{In}
 use borrow.Fn.PlainCycle.{Measures, is, falls, and}
@@ -30,10 +30,8 @@ use Rattle.flatten.proofs.flatten_head.Reads as flatten-head-reads
 use Rattle.flatten.proofs.flatten_kept_head.Reads as flatten-kept-head-reads
 use Rattle.flatten.proofs.is_light.Reads as is-light-reads
 use Rattle.flatten.proofs.Around.push.Reads as push-reads
-use Rattle.task.proofs.number_at.Reads as number-at-reads
+use Rattle.constraint_check.proofs.check_header.Reads as check-header-reads
 use Rattle.task.proofs.read_constraint_node.Reads as read-constraint-node-reads
-use Rattle.task_check.proofs.check_binder.Reads as check-binder-reads
-use Rattle.task_check.proofs.check_preds.Reads as check-preds-reads
 use Rattle.flatten.proofs.+flatten_constraint+flatten_for_all+flatten_members.{statement}
 use Rattle.flatten.proofs.+flatten_constraint+flatten_for_all+flatten_members.Tie.{close}
 
@@ -100,7 +98,7 @@ flatten-constraint-calls t = (read-constraint-node-reads.Asked, read-constraint-
 
 -- what the calls in it ask and give
 abbrev flatten-for-all-calls : ℕ → flatten-for-all-lts.Claims
-flatten-for-all-calls t = (check-binder-reads.Asked, check-binder-reads.Learnt, number-at-reads.Asked, number-at-reads.Learnt, check-preds-reads.Asked, check-preds-reads.Learnt, extend-reads.Asked, extend-reads.Learnt, push-reads.Asked, push-reads.Learnt, to-reads.Asked, to-reads.Learnt, flatten-constraint-below t, flatten-constraint.Post)
+flatten-for-all-calls t = (check-header-reads.Asked, check-header-reads.Learnt, extend-reads.Asked, extend-reads.Learnt, push-reads.Asked, push-reads.Learnt, to-reads.Asked, to-reads.Learnt, flatten-constraint-below t, flatten-constraint.Post)
 
 -- what the calls in it ask and give
 abbrev flatten-members-calls : ℕ → flatten-members-lts.Claims
@@ -131,25 +129,19 @@ flatten-constraint-returns-5 : (t : ℕ) → flatten-constraint-lts.Need-returns
 flatten-constraint-returns-5 t c = (node-refused _ _ _ _ _ _ _ _ _ _ _ (c .before .before .before .if1 .left) (c .before .before .read-constraint-node .ensures) (c .enum-told .given .1), stays-same _ _)
 
 flatten-for-all-returns : (t : ℕ) → flatten-for-all-lts.Need-returns (flatten-for-all-calls t) (flatten-for-all-at t) flatten-for-all.Post
-flatten-for-all-returns t c = (for-all-unbound _ _ _ _ _ _ _ _ _ _ _ (c .before .before .check-binder .ensures) _ (c .enum-told .given .1), stays-same _ _)
-
-flatten-for-all-returns-2 : (t : ℕ) → flatten-for-all-lts.Need-returns-2 (flatten-for-all-calls t) (flatten-for-all-at t) flatten-for-all.Post
-flatten-for-all-returns-2 t c = (for-all-uncounted _ _ _ _ _ _ _ _ _ _ _ (c .before .before .before .before .before .before .check-binder .ensures) _ _ (c .before .before .before .before .binder .given .1) _ (c .before .before .number-at .ensures) (c .enum-told2 .given .1), stays-same _ _)
-
-flatten-for-all-returns-3 : (t : ℕ) → flatten-for-all-lts.Need-returns-3 (flatten-for-all-calls t) (flatten-for-all-at t) flatten-for-all.Post
-flatten-for-all-returns-3 t c = (for-all-unheld _ _ _ _ _ _ _ _ _ _ _ (c .before .before .before .before .before .before .before .before .before .before .check-binder .ensures) _ _ (c .before .before .before .before .before .before .before .before .binder .given .1) _ (c .before .before .before .before .before .before .number-at .ensures) _ _ (c .before .before .before .before .number .given .1) _ (c .before .before .check-preds .ensures) _ (c .enum-told3 .given .1), stays-same _ _)
+flatten-for-all-returns t c = (for-all-unheaded _ _ _ _ _ _ _ _ _ _ _ (c .before .before .check-header .ensures) _ (c .enum-told .given .1), stays-same _ _)
 
 flatten-for-all-extend-requires : (t : ℕ) → flatten-for-all-lts.Need-extend-requires (flatten-for-all-calls t) (flatten-for-all-at t) flatten-for-all.Post
-flatten-for-all-extend-requires t c κs = (c .before .before .before .before .before .before .before .before .before .before .before .before .before .before .before .before .before .pre .1 .chained, c .before .before .before .before .before .before .before .before .before .before .before .before .before .before .before .before .before .pre .1 .keeps .fits)
+flatten-for-all-extend-requires t c κs = (c .before .before .before .before .before .before .before .before .before .pre .1 .chained, c .before .before .before .before .before .before .before .before .before .pre .1 .keeps .fits)
 
 flatten-for-all-push-requires : (t : ℕ) → flatten-for-all-lts.Need-push-requires (flatten-for-all-calls t) (flatten-for-all-at t) flatten-for-all.Post
-flatten-for-all-push-requires t c κs = let room = c .before .before .before .before .before .before .before .before .before .before .before .before .before .before .before .before .before .before .before .before .pre .1 .leaves .within in (omega arith, binder-offset _ _ _ _ _ _ (c .before .before .before .before .before .before .before .before .before .before .before .before .before .before .before .check-binder .ensures) (c .before .before .before .before .before .before .before .before .before .before .before .before .before .binder .given .1) (c .before .before .before .before .before .before .before .before .before .before .before .before .before .before .before .before .before .before .before .before .pre .1 .short))
+flatten-for-all-push-requires t c κs = let room = c .before .before .before .before .before .before .before .before .before .before .before .before .pre .1 .leaves .within in (omega arith, header-offset _ _ _ _ _ _ (c .before .before .before .before .before .before .before .check-header .ensures) (c .before .before .before .before .before .header .given .1) (c .before .before .before .before .before .before .before .before .before .before .before .before .pre .1 .short))
 
 flatten-for-all-flatten-constraint-requires : (t : ℕ) → flatten-for-all-lts.Need-flatten-constraint-requires (flatten-for-all-calls t) (flatten-for-all-at t) flatten-for-all.Post
-flatten-for-all-flatten-constraint-requires t c κs = let far = c .before .before .before .before .before .before .before .before .before .before .before .before .before .before .before .before .before .before .before .before .before .before .before .before .pre .0 in (omega arith, ready-pushed _ _ _ _ _ _ _ _ _ (c .before .before .before .before .before .before .before .before .before .before .before .before .before .before .before .before .before .before .before .before .before .before .before .before .pre .1) (c .before .before .before .push .ensures) (c .before .before .before .before .before .before .extend .ensures))
+flatten-for-all-flatten-constraint-requires t c κs = let far = c .before .before .before .before .before .before .before .before .before .before .before .before .before .before .before .before .pre .0 in (omega arith, ready-pushed _ _ _ _ _ _ _ _ _ (c .before .before .before .before .before .before .before .before .before .before .before .before .before .before .before .before .pre .1) (c .before .before .before .push .ensures) (c .before .before .before .before .before .before .extend .ensures))
 
-flatten-for-all-returns-4 : (t : ℕ) → flatten-for-all-lts.Need-returns-4 (flatten-for-all-calls t) (flatten-for-all-at t) flatten-for-all.Post
-flatten-for-all-returns-4 t c = let room = c .before .before .before .before .before .before .before .before .before .before .before .before .before .before .before .before .before .before .before .before .before .before .before .before .before .before .before .before .before .pre .1 .leaves .within in (for-all-puts _ _ _ _ _ _ _ _ _ _ _ (c .before .before .before .before .before .before .before .before .before .before .before .before .before .before .before .before .before .before .before .before .before .before .before .before .check-binder .ensures) _ _ (c .before .before .before .before .before .before .before .before .before .before .before .before .before .before .before .before .before .before .before .before .before .before .binder .given .1) _ (c .before .before .before .before .before .before .before .before .before .before .before .before .before .before .before .before .before .before .before .before .number-at .ensures) _ _ (c .before .before .before .before .before .before .before .before .before .before .before .before .before .before .before .before .before .before .number .given .1) _ (c .before .before .before .before .before .before .before .before .before .before .before .before .before .before .before .before .check-preds .ensures) _ _ _ _ (omega arith) (c .before .before .before .before .before .before .before .before .before .before .before .before .before .before .preds .given .1) (c .before .before .before .before .before .before .before .before .push .ensures .1) (c .before .before .before .before .before .before .before .to .ensures) (c .before .before .before .before .flatten-constraint .ensures .0), stays-inside _ _ _ _ _ _ _ _ _ (c .before .before .before .before .before .before .before .before .before .before .before .extend .ensures) (c .before .before .before .before .before .before .before .before .push .ensures .0) (c .before .before .before .before .flatten-constraint .ensures .1))
+flatten-for-all-returns-2 : (t : ℕ) → flatten-for-all-lts.Need-returns-2 (flatten-for-all-calls t) (flatten-for-all-at t) flatten-for-all.Post
+flatten-for-all-returns-2 t c = let room = c .before .before .before .before .before .before .before .before .before .before .before .before .before .before .before .before .before .before .before .before .before .pre .1 .leaves .within in (for-all-puts _ _ _ _ _ _ _ _ _ _ _ (c .before .before .before .before .before .before .before .before .before .before .before .before .before .before .before .before .check-header .ensures) _ _ _ _ (omega arith) (c .before .before .before .before .before .before .before .before .before .before .before .before .before .before .header .given .1) (c .before .before .before .before .before .before .before .before .push .ensures .1) (c .before .before .before .before .before .before .before .to .ensures) (c .before .before .before .before .flatten-constraint .ensures .0), stays-inside _ _ _ _ _ _ _ _ _ (c .before .before .before .before .before .before .before .before .before .before .before .extend .ensures) (c .before .before .before .before .before .before .before .before .push .ensures .0) (c .before .before .before .before .flatten-constraint .ensures .1))
 
 abbrev flatten-members-Inv-loop : flatten-members-lts.InvT-loop
 flatten-members-Inv-loop s levels around enc range buf₀ text₀ kept walk₀ left₀ buf text walk left =
@@ -226,21 +218,13 @@ pub +flatten-constraint+flatten-for-all+flatten-members-spec : {M : Type 1} → 
     (λ c. search needs)
     (λ c. search needs)
     (flatten-for-all-returns t)
-    (λ c κs. search needs)
-    (λ c. search needs)
-    (λ c. search needs)
-    (flatten-for-all-returns-2 t)
-    (λ c κs. search needs)
-    (λ c. search needs)
-    (λ c. search needs)
-    (flatten-for-all-returns-3 t)
     (flatten-for-all-extend-requires t)
     (flatten-for-all-push-requires t)
     (λ c κs. search needs)
     (flatten-for-all-flatten-constraint-requires t)
     (λ c. search needs)
     (λ c. search needs)
-    (flatten-for-all-returns-4 t))
+    (flatten-for-all-returns-2 t))
     λ t. flatten-members-lts.spec (flatten-members-calls t) (flatten-members-at t)
     flatten-members.Post
     flatten-members-Inv-loop

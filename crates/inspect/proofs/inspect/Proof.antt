@@ -1,60 +1,62 @@
--- inspect reads the trailer, walks the items and then the constraint.
-use native.Mathlib.Omega.{arith}
-use lib.ListN.{length-take}
-use Rattle.inspect.proofs.Whole.{inspect-unframed, inspect-inside, inspect-short, inspect-refused, inspect-concludes}
+-- inspect checks the pieces, declares the names and judges those of the ForAlls.
+use Rattle.inspect.proofs.Naming.{checked, refused-before, checked-inside, checked-words, names-read, names-judged}
 use borrow.Author.Needs.{needs}
 use Rattle.inspect.proofs.inspect.Statement.{statement}
 use Rattle.inspect.proofs.inspect.Tie as tie
 
-read-trailer-requires : tie.Need-read-trailer-requires
-read-trailer-requires c κs = search needs
+check-pieces-requires : tie.Need-check-pieces-requires
+check-pieces-requires c κs = search needs
 
-enum-known-trailer : tie.Need-enum-known-trailer
-enum-known-trailer c = search needs
+enum-known-sound : tie.Need-enum-known-sound
+enum-known-sound c = search needs
 
 enum-told : tie.Need-enum-told
 enum-told c = search needs
 
 returns : tie.Need-returns
-returns c = search inspect-unframed
+returns c = refused-before _ _ (c .before .before .check-pieces .ensures) _ (c .before .before .before .before .before .pre) _ (c .enum-told .given .1)
 
-check-items-requires : tie.Need-check-items-requires
-check-items-requires c κs = inspect-inside _ _ (c .before .before .before .read-trailer .ensures) _ (c .before .trailer .given .1)
+declare-requires : tie.Need-declare-requires
+declare-requires c κs = let k = checked _ _ (c .before .before .before .before .check-pieces .ensures) _ _ _ (c .before .before .sound .given .1) in ((checked-inside _ _ _ _ k, c .before .before .before .before .before .before .before .pre .blank), checked-words _ _ _ _ k _ (c .before .before .before .before .before .before .before .pre))
 
-enum-known-items : tie.Need-enum-known-items
-enum-known-items c = search needs
+check-scope-requires : tie.Need-check-scope-requires
+check-scope-requires c κs = search needs
 
-slice-aggregate-check-constraint : tie.Need-slice-aggregate-check-constraint
-slice-aggregate-check-constraint c = let h = inspect-inside _ _ (c .before .before .before .before .before .before .before .before .read-trailer .ensures) _ (c .before .before .before .before .before .before .trailer .given .1) .end in simp length-take (omega arith)
+enum-known-walked : tie.Need-enum-known-walked
+enum-known-walked c = search needs
 
-check-constraint-requires : tie.Need-check-constraint-requires
-check-constraint-requires c κs = inspect-short _ _ (c .before .before .before .before .before .before .before .before .read-trailer .ensures) _ (c .before .before .before .before .before .before .trailer .given .1)
+enum-told-2 : tie.Need-enum-told-2
+enum-told-2 c = search needs
 
-conclude-requires : tie.Need-conclude-requires
-conclude-requires c κs = search needs
-
-enum-known-items-2 : tie.Need-enum-known-items-2
-enum-known-items-2 c = search needs
+same-length : tie.Need-same-length
+same-length c = search needs
 
 returns-2 : tie.Need-returns-2
-returns-2 c = search inspect-concludes
+returns-2 c = names-read _ _ _ _ (checked _ _ (c .before .before .before .before .before .before .before .before .before .before .before .check-pieces .ensures) _ _ _ (c .before .before .before .before .before .before .before .before .before .sound .given .1)) _ (c .before .before .before .before .before .before .declare .ensures) _ (c .before .before .check-scope .ensures) _ (c .enum-told2 .given .1)
+
+judge-requires : tie.Need-judge-requires
+judge-requires c κs = search needs
+
+same-length-2 : tie.Need-same-length-2
+same-length-2 c = search needs
 
 returns-3 : tie.Need-returns-3
-returns-3 c = search inspect-refused
+returns-3 c = names-judged _ _ _ _ (checked _ _ (c .before .before .before .before .before .before .before .before .before .before .before .before .before .check-pieces .ensures) _ _ _ (c .before .before .before .before .before .before .before .before .before .before .before .sound .given .1)) _ (c .before .before .before .before .before .before .before .before .declare .ensures) _ (c .before .before .before .before .check-scope .ensures) _ _ _ (c .before .before .walked .given .1) (c .judge .ensures)
 
 pub inspect-spec : {M : Type 1} → statement M
 inspect-spec =
     tie.close
     (tie.spec
-    read-trailer-requires
-    enum-known-trailer
+    check-pieces-requires
+    enum-known-sound
     enum-told
     returns
-    check-items-requires
-    enum-known-items
-    slice-aggregate-check-constraint
-    check-constraint-requires
-    conclude-requires
-    enum-known-items-2
+    declare-requires
+    check-scope-requires
+    enum-known-walked
+    enum-told-2
+    same-length
     returns-2
+    judge-requires
+    same-length-2
     returns-3)

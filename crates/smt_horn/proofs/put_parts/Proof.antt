@@ -1,7 +1,7 @@
 -- `put_parts`: a table by the file's length.
 use native.Mathlib.Omega.{arith}
-use Rattle.names.proofs.Theorems.{zeros-blank}
 use lib.ListN.{length-replicate}
+use Rattle.names.proofs.Theorems.{zeros-blank}
 use borrow.Author.Needs.{needs}
 use Rattle.smt_horn.proofs.put_parts.Statement.{statement}
 use Rattle.smt_horn.proofs.put_parts.Tie as tie
@@ -10,7 +10,7 @@ slice-aggregate-put-with : tie.Need-slice-aggregate-put-with
 slice-aggregate-put-with c = search needs
 
 put-with-requires : tie.Need-put-with-requires
-put-with-requires c κs = let h = c .before .before .before .before .before .pre .inside .most in ((c .before .before .before .before .before .pre, zeros-blank 2026 (omega arith)), simp length-replicate (omega arith))
+put-with-requires c κs = record { blank = zeros-blank 2026 (omega arith); words = λ h. simp length-replicate (omega arith) }
 
 same-length : tie.Need-same-length
 same-length c = search needs
@@ -22,7 +22,7 @@ slice-aggregate-put-with-2 : tie.Need-slice-aggregate-put-with-2
 slice-aggregate-put-with-2 c = search needs
 
 put-with-requires-2 : tie.Need-put-with-requires-2
-put-with-requires-2 c κs = let h = c .before .before .before .before .before .before .pre .inside .most in ((c .before .before .before .before .before .before .pre, zeros-blank 9026 (omega arith)), simp length-replicate (omega arith))
+put-with-requires-2 c κs = record { blank = zeros-blank 9026 (omega arith); words = λ h. simp length-replicate (omega arith) }
 
 same-length-2 : tie.Need-same-length-2
 same-length-2 c = search needs
@@ -34,7 +34,7 @@ slice-aggregate-put-with-3 : tie.Need-slice-aggregate-put-with-3
 slice-aggregate-put-with-3 c = search needs
 
 put-with-requires-3 : tie.Need-put-with-requires-3
-put-with-requires-3 c κs = let h = c .before .before .before .before .before .before .pre .inside .most in ((c .before .before .before .before .before .before .pre, zeros-blank 61026 (omega arith)), simp length-replicate (omega arith))
+put-with-requires-3 c κs = record { blank = zeros-blank 61026 (omega arith); words = λ h. simp length-replicate (omega arith) }
 
 same-length-3 : tie.Need-same-length-3
 same-length-3 c = search needs
