@@ -26,19 +26,19 @@ use Rattle.constraint_check.specs.Around.{Header, headerFault, header, forAll}
 use Rattle.constraint_check.proofs.Constraints.{by-node, for-all-is, header-named}
 use Rattle.names.specs.declared.Found.{Found}
 use Rattle.names.specs.declared.Found.the-variants.{Entry, Nothing}
-use Rattle.names.specs.declared.Kind.the-variants.{KVar, Function}
-use Rattle.names.specs.Table.{numberOf, entries, lastOf, fits, namesOf}
+use Rattle.names.specs.Table.{entries, lastOf, fits}
 use Rattle.names.specs.Theorems.{isFound}
 use Rattle.names.proofs.Theorems.{members}
 use Rattle.scope.specs.Taken.{takenIn, sound}
 
--- a name is found in the table exactly if it is taken
-module _ (s table : List ℕ) (x : Span) (w : List ℕ) (e : w ≡ bytesOf s x) (f : Found) (u : f ≡ lastOf (fits w (numberOf KVar) (numberOf Function)) (entries s table)) where
+-- a name is found in the table exactly if it is taken: the kinds that are sought are 1 to 5
+module _ (s table : List ℕ) (x : Span) (w : List ℕ) (e : w ≡ bytesOf s x) (lowest highest : ℕ) (f : Found) (u : f ≡ lastOf (fits w lowest highest) (entries s table))
+    (low : lowest ≡ 1) (high : highest ≡ 5) where
   found-taken : isFound f ≡ isOne (bytesOf s x) (takenIn s table)
   unfolding takenIn
   found-taken =
-      ap isFound u ∙ members w (numberOf KVar) (numberOf Function) (entries s table)
-      ∙ ap (λ (v : List ℕ). isOne v (namesOf (numberOf KVar) (numberOf Function) (entries s table))) e
+      ap isFound u ∙ members w lowest highest (entries s table)
+      ∙ rw (low, high, e)
 
   pub name-clashes : (k : ℕ) → f ≡ Entry k → Clash ≡ clashFault (takenIn s table) (bytesOf s x)
   unfolding clashFault

@@ -1,4 +1,5 @@
 -- clash_fault looks the name up.
+use mathlib.Core.Path.{refl}
 use Rattle.scope.proofs.Scopes.{name-clashes, name-free}
 use borrow.Author.Needs.{needs}
 use Rattle.scope.proofs.clash_fault.Statement.{statement}
@@ -17,10 +18,10 @@ enum-told-2 : tie.Need-enum-told-2
 enum-told-2 c = search needs
 
 returns : tie.Need-returns
-returns c = search name-clashes
+returns c = name-clashes _ _ (c .before .before .before .before .before .before .args .x) _ (c .before .before .before .bytes-of .ensures) _ _ _ (c .before .before .find .ensures) refl refl _ (c .enum-told .given .1)
 
 returns-2 : tie.Need-returns-2
-returns-2 c = search name-free
+returns-2 c = name-free _ _ (c .before .before .before .before .before .before .args .x) _ (c .before .before .before .bytes-of .ensures) _ _ _ (c .before .before .find .ensures) refl refl (c .enum-told2 .given .1)
 
 pub clash-fault-spec : {M : Type 1} → statement M
 clash-fault-spec =
