@@ -165,6 +165,15 @@ pub clashes : map (λ x. scopeFault (one-of-each (Constraint.forAll x Sort.int [
 unfolding lower takenNames clashFault constraintScope scopeFault
 clashes = refl
 
+-- So is one under another, and one behind another member of a Conj.
+pub clashes-inside : scopeFault (one-of-each (Constraint.forAll (bytes "x") Sort.int [] (Constraint.forAll (bytes "k") Sort.int [] nothing))) ≡ Clash
+unfolding lower takenNames clashFault constraintScope scopeFault
+clashes-inside = refl
+
+pub clashes-behind : scopeFault (one-of-each (Constraint.conj (Constraints.more (for-all-x nothing) (Constraints.more (Constraint.forAll (bytes "k") Sort.int [] nothing) Constraints.none)))) ≡ Clash
+unfolding lower takenNames clashFault constraintScope scopeFault
+clashes-behind = refl
+
 -- Case S has no such ForAll.
 pub s-names : scopeFault task-s ≡ Sound
 unfolding task-s lower takenNames clashFault constraintScope scopeFault
