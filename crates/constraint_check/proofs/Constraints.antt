@@ -160,25 +160,29 @@ module _ (l : ℕ) (s : List ℕ) (at : ℕ) (v : Walked) (u : v ≡ walked bind
         (a ∙ ap (after f) m
         ∙ walk-lasts (each predFault) headerFault (many [] _∷_ (decPred l) n s q) (λ ps. record { binder = b; preds = ps }) f (λ ps. rw g)))
 
+-- what follows the header of a ForAll: its body
+abbrev pub under : ℕ → List ℕ → Header → ℕ → Res Constraint
+under l s h t = bind (decConstraint l s t) (λ c q. got (Constraint.forAll (h .binder .name) (h .binder .sort) (h .preds) c) q)
+
 -- a ForAll is its header and its body
 pub for-all-is : (l : ℕ) (s : List ℕ) (at : ℕ)
-    → forAll l s at ≡ bind (header l s at) (λ h p. bind (decConstraint l s p) (λ c q. got (Constraint.forAll (h .binder .name) (h .binder .sort) (h .preds) c) q))
+    → forAll l s at ≡ bind (header l s at) (under l s)
 for-all-is l s at = by-name (name s at)
   where
     by-preds : (x : List ℕ) (b : Sort) (y : Res (List Pred)) → bind y (λ ps p. bind (decConstraint l s p) (λ c q. got (Constraint.forAll x b ps c) q))
-        ≡ bind (bind y (λ ps p. got (record { binder = record { name = x; sort = b }; preds = ps }) p)) (λ (h : Header) p. bind (decConstraint l s p) (λ c q. got (Constraint.forAll (h .binder .name) (h .binder .sort) (h .preds) c) q))
+        ≡ bind (bind y (λ ps p. got (record { binder = record { name = x; sort = b }; preds = ps }) p)) (under l s)
     by-preds x b (got ps p) = refl
     by-preds x b (refuse k) = refl
 
     by-sort : (x : List ℕ) (y : Res Sort) → bind y (λ b p. bind (counted [] _∷_ (decPred l) s p) (λ ps r. bind (decConstraint l s r) (λ c q. got (Constraint.forAll x b ps c) q)))
         ≡ bind (bind (bind y (λ b p. got (record { name = x; sort = b }) p)) (λ (b : Binder) p. bind (counted [] _∷_ (decPred l) s p) (λ ps q. got (record { binder = b; preds = ps }) q)))
-        (λ (h : Header) p. bind (decConstraint l s p) (λ c q. got (Constraint.forAll (h .binder .name) (h .binder .sort) (h .preds) c) q))
+        (under l s)
     by-sort x (got b p) = by-preds x b (counted [] _∷_ (decPred l) s p)
     by-sort x (refuse k) = refl
 
     by-name : (y : Res (List ℕ)) → bind y (λ x p. bind (decSort l s p) (λ b t. bind (counted [] _∷_ (decPred l) s t) (λ ps r. bind (decConstraint l s r) (λ c q. got (Constraint.forAll x b ps c) q))))
         ≡ bind (bind (bind y (λ x p. bind (decSort l s p) (λ b q. got (record { name = x; sort = b }) q))) (λ (b : Binder) p. bind (counted [] _∷_ (decPred l) s p) (λ ps q. got (record { binder = b; preds = ps }) q)))
-        (λ (h : Header) p. bind (decConstraint l s p) (λ c q. got (Constraint.forAll (h .binder .name) (h .binder .sort) (h .preds) c) q))
+        (under l s)
     by-name (got x p) = by-sort x (decSort l s p)
     by-name (refuse k) = refl
 
@@ -199,29 +203,24 @@ module _ (l : ℕ) (s offsets : List ℕ) (at : ℕ) (x : SpanRead) (e : name s 
   for-all-unnamed c e' u = rw (e, e') u
 
   module _ (y : Span) (p : ℕ) (e' : x ≡ span-is.At y p) (v : Walked) (u : v ≡ walked headerFault (header l s at)) where
-    -- what follows the header
-    under : Header → ℕ → Res Constraint
-    under h t = bind (decConstraint l s t) (λ c q. got (Constraint.forAll (h .binder .name) (h .binder .sort) (h .preds) c) q)
-
-    from-header : (c : Counted) → c ≡ tally (constraintFault (namesOn s offsets)) headsOf (bind (header l s at) under) → c ≡ tally (constraintFault (namesOn s offsets)) headsOf (forAll l s at)
-    unfolding under
+    from-header : (c : Counted) → c ≡ tally (constraintFault (namesOn s offsets)) headsOf (bind (header l s at) (under l s)) → c ≡ tally (constraintFault (namesOn s offsets)) headsOf (forAll l s at)
     from-header c w = w ∙ sym (ap (tally (constraintFault (namesOn s offsets)) headsOf) (for-all-is l s at))
 
     pub for-all-stops : (j : ℕ) → v ≡ walked-is.Refused j → answer v 0 ≡ tally (constraintFault (namesOn s offsets)) headsOf (forAll l s at)
-    for-all-stops j u' = from-header (answer v 0) (stops headerFault (constraintFault (namesOn s offsets)) headsOf (header l s at) under v j u u')
+    for-all-stops j u' = from-header (answer v 0) (stops headerFault (constraintFault (namesOn s offsets)) headsOf (header l s at) (under l s) v j u u')
 
     pub for-all-walks : (t : ℕ) (f : Fault) (offsets' : List ℕ) (c : Counted) (fs fb : Fault) (w : Walked) → v ≡ walked-is.Next t f
         → offsets' ≡ offsets ++ at ∷ [] → c ≡ tally (constraintFault (namesOn s offsets')) headsOf (decConstraint l s t)
         → fs ≡ shadowFault (namesOn s offsets) (bytesOf s y) → fb ≡ lower f fs → w ≡ after fb (c .walked)
         → answer w (c .heads) ≡ tally (constraintFault (namesOn s offsets)) headsOf (forAll l s at)
-    unfolding under constraintFault headsOf binderFault
+    unfolding constraintFault headsOf binderFault
     for-all-walks t f offsets' c fs fb w u' o d sf a a' =
         let own : name s at ≡ got (bytesOf s y) p = e ∙ ap (spanOf s) e' in
         let names : namesOn s offsets' ≡ namesOn s offsets ++ bytesOf s y ∷ [] = ap (namesOn s) o ∙ names-append s offsets at (bytesOf s y) p own in
         let inner = constraintFault (namesOn s offsets ++ bytesOf s y ∷ []) in
         let d' : c ≡ tally inner headsOf (decConstraint l s t) = d ∙ ap (λ (xs : List (List ℕ)). tally (constraintFault xs) headsOf (decConstraint l s t)) names in
         from-header (answer w (c .heads)) (
-        goes headerFault (constraintFault (namesOn s offsets)) headsOf (header l s at) under v t f (answer w (c .heads)) u u' (λ h z g.
+        goes headerFault (constraintFault (namesOn s offsets)) headsOf (header l s at) (under l s) v t f (answer w (c .heads)) u u' (λ h z g.
         let n : h .binder .name ≡ bytesOf s y = header-named l s at h t (bytesOf s y) p z own in
         parts (a' ∙ ap (λ (q : Counted). after fb (q .walked)) d') (ap (λ (q : Counted). q .heads) d')
         ∙ ends inner headsOf (constraintFault (namesOn s offsets)) headsOf (decConstraint l s t) (Constraint.forAll (h .binder .name) (h .binder .sort) (h .preds)) fb

@@ -22,8 +22,8 @@ use Rattle.task_check.specs.declared.Walked.the-variants as walked-is
 use Rattle.task_check.specs.Walk.{walked, after}
 use Rattle.task_check.proofs.Rows.{Fold, after-sound, next-is, refused-is}
 use Rattle.task_check.proofs.Exprs.{stops, goes, lasts}
-use Rattle.constraint_check.specs.Around.{Header, headerFault, header, forAll}
-use Rattle.constraint_check.proofs.Constraints.{by-node, for-all-is, header-named}
+use Rattle.constraint_check.specs.Around.{headerFault, header, forAll}
+use Rattle.constraint_check.proofs.Constraints.{by-node, under, for-all-is, header-named}
 use Rattle.names.specs.declared.Found.{Found}
 use Rattle.names.specs.declared.Found.the-variants.{Entry, Nothing}
 use Rattle.names.specs.Table.{entries, lastOf, fits}
@@ -94,22 +94,17 @@ module _ (taken : List (List ℕ)) (l : ℕ) (s : List ℕ) (at : ℕ) (x : Span
   for-all-unnamed e' = rw (e, e')
 
   module _ (y : Span) (p : ℕ) (e' : x ≡ span-is.At y p) (v : Walked) (u : v ≡ walked headerFault (header l s at)) where
-    -- what follows the header
-    under : Header → ℕ → Res Constraint
-    under h t = bind (decConstraint l s t) (λ c q. got (Constraint.forAll (h .binder .name) (h .binder .sort) (h .preds) c) q)
-
-    from-header : (w : Walked) → w ≡ walked (constraintScope taken) (bind (header l s at) under) → w ≡ walked (constraintScope taken) (forAll l s at)
-    unfolding under
+    from-header : (w : Walked) → w ≡ walked (constraintScope taken) (bind (header l s at) (under l s)) → w ≡ walked (constraintScope taken) (forAll l s at)
     from-header w g = g ∙ sym (ap (walked (constraintScope taken)) (for-all-is l s at))
 
     pub for-all-stops : (j : ℕ) → v ≡ walked-is.Refused j → v ≡ walked (constraintScope taken) (forAll l s at)
-    for-all-stops j u' = from-header v (stops headerFault (constraintScope taken) (header l s at) under v j u u')
+    for-all-stops j u' = from-header v (stops headerFault (constraintScope taken) (header l s at) (under l s) v j u u')
 
     pub for-all-walks : (t : ℕ) (f g : Fault) (b w : Walked) → v ≡ walked-is.Next t f → g ≡ clashFault taken (bytesOf s y) → b ≡ walked (constraintScope taken) (decConstraint l s t) → w ≡ after g b
         → w ≡ walked (constraintScope taken) (forAll l s at)
-    unfolding under constraintScope
+    unfolding constraintScope
     for-all-walks t f g b w u' c d a =
-        from-header w (goes headerFault (constraintScope taken) (header l s at) under v t f w u u' (λ h z k.
+        from-header w (goes headerFault (constraintScope taken) (header l s at) (under l s) v t f w u u' (λ h z k.
         let n : h .binder .name ≡ bytesOf s y = header-named l s at h t (bytesOf s y) p z (e ∙ ap (spanOf s) e') in
         a ∙ ap (after g) d
         ∙ lasts (constraintScope taken) (constraintScope taken) (decConstraint l s t) (Constraint.forAll (h .binder .name) (h .binder .sort) (h .preds)) g (λ c'. rw (c, n))))

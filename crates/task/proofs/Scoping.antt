@@ -15,7 +15,7 @@ use Rattle.task.specs.Decode.{Res, got, refuse, bind}
 use Rattle.task.specs.Fault.{rank, lower, refusalOf, unless, taskFault}
 use Rattle.task.specs.Scope.{ctorTakes, ctorsTake, datatypesTake, takenNames, clashFault, constraintScope, constraintsScope, scopeFault}
 use Rattle.task.specs.Task.{judgedBy, firstFault, judged, taskOf, ctorNames, declaredBy}
-use Rattle.task.specs.Laws.{forAllNames, forAllsIn, ctorFields, fieldNames, Disjoint, Apart, Scopes, HeldApart}
+use Rattle.task.specs.Laws.{forAllNames, forAllsIn, ctorFields, fieldNames, Disjoint, Apart, JudgedLast, Scopes, HeldApart}
 use Rattle.task.proofs.Reading.{got-refuse}
 use Rattle.task.proofs.Judging.{lower-left, sound-lower, sound-parts}
 use Rattle.task.proofs.Opened.{held}
@@ -215,8 +215,7 @@ scopes t = record { sound = sound; apart = apart; clash = λ n. late-clash (scop
 abbrev by : Fault → Task → ℕ → Res Task
 by f = judgedBy (λ t. f)
 
--- Names are judged behind the pieces: the fault that is judged first is a piece's, or else a name's.
-pub judged-last : (t : Task) (end : ℕ) → judged t end ≡ bind (judgedBy taskFault t end) (judgedBy scopeFault)
+pub judged-last : JudgedLast
 unfolding judged firstFault
 judged-last t end = go (taskFault t)
   where

@@ -10,10 +10,10 @@ use Rattle.smtlib.specs.Lexicon.{isOne}
 use Rattle.task.specs.declared.Fault.{Fault}
 use Rattle.task.specs.declared.Fault.the-variants.{Text, Clash, Sound}
 use Rattle.task.specs.Ast.{Sort, Binder, Expr, Pred, Constraint, Constraints, DataCtor, DataDecl, FunDef, KVarDecl, Task}
-use Rattle.task.specs.Decode.{got, Decoder, _▹_, many, binder, decPred, section}
-use Rattle.task.specs.Fault.{lower, textFault, sortFault, binderFault, exprFault, predFault, datatypeFault, functionFault, kvarFault}
+use Rattle.task.specs.Decode.{got, bind, Decoder, _▹_, many, binder, decPred, section}
+use Rattle.task.specs.Fault.{lower, textFault, sortFault, binderFault, exprFault, predFault, datatypeFault, functionFault, kvarFault, taskFault}
 use Rattle.task.specs.Scope.{scopeFault}
-use Rattle.task.specs.Task.{taskOf, declaredBy}
+use Rattle.task.specs.Task.{judgedBy, judged, taskOf, declaredBy}
 use Rattle.task.specs.Returns.{write-sort-returns, write-expr-returns, write-pred-returns, write-datatype-decl-returns, write-const-decl-returns, write-fun-def-returns, write-kvar-decl-returns}
 use Rattle.task.specs.Covers.{CoversSome}
 
@@ -104,6 +104,10 @@ pub record Apart (t : Task) : Type 0 where
   pub constructors : Disjoint (forAllNames (t .constraint)) (declaredBy true (t .datatypes))
   pub fields : Disjoint (forAllNames (t .constraint)) (fieldNames (t .datatypes))
   pub kvars : Disjoint (forAllNames (t .constraint)) (map (λ k. k .kvid) (t .kvars))
+
+-- Names are judged behind pieces: where a piece is at fault its number is answered, and else that of the names. (proofs/Scoping.antt: judged-last)
+abbrev pub JudgedLast : Type 0
+JudgedLast = (t : Task) (end : ℕ) → judged t end ≡ bind (judgedBy taskFault t end) (judgedBy scopeFault)
 
 -- W-207, said without the fold: so it is exactly where the names are without fault, and else the fault is that of 15. (proofs/Scoping.antt: scopes)
 pub record Scopes (t : Task) : Type 0 where
