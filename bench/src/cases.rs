@@ -6,7 +6,7 @@ use oracle::faults::any_kind;
 use oracle::limits::nested;
 use oracle::task::{accepted, is_symbol, LONGEST_FILE};
 use oracle::words::{bytes, packed, USUAL};
-use std::iter::repeat_with;
+use std::{collections::BTreeSet, iter::repeat_with};
 
 /// The quarters of a case's whole size.
 pub const WHOLE: usize = 4;
@@ -14,17 +14,21 @@ pub const WHOLE: usize = 4;
 /// A case: its name, whether its growth is measured, and its files at so many quarters of its size.
 pub type Case = (&'static str, bool, fn(usize) -> Vec<Vec<u8>>);
 
-pub const CASES: [Case; 15] = [
+pub const CASES: [Case; 19] = [
     ("deep", true, |quarters| vec![deep(quarters)]),
     ("wide", true, |quarters| vec![packed(&format!("h: {}", heads(share(WIDE_HEADS, quarters))))]),
-    ("wide-kvars", false, |quarters| vec![filled(quarters, "v: 'k0 #1 0 h: 2 'x 0 #2 P P 1 #@", || "0 0 'k0 #1 5 'x".to_string())]),
+    ("wide-kvars", false, |quarters| vec![filled(quarters, WIDE_KVARS, || "0 0 'k0 #1 5 'x".to_string())]),
     ("expressions", true, |quarters| vec![expressions(quarters)]),
     ("datatypes", true, |quarters| vec![datatypes(quarters, &numbered(share(MANY_DATATYPES, quarters)))]),
     ("datatypes-few", false, |quarters| vec![datatypes(quarters, &numbered(FEW_DATATYPES))]),
     ("one-bucket", true, |quarters| vec![datatypes(quarters, &in_one_bucket(share(MANY_DATATYPES, quarters)))]),
     ("binders", true, |quarters| vec![binders(share(BINDERS, quarters))]),
     ("applications", true, |quarters| vec![applications(share(APPS, quarters), share(VARIABLES, quarters))]),
-    ("names", true, |quarters| vec![filled(quarters, "h: 0 1 13 #@", || "17 0 5 'merge #2 5 'left 5 'right".to_string())]),
+    ("names", true, |quarters| vec![filled(quarters, NAMES, || "17 0 5 'merge #2 5 'left 5 'right".to_string())]),
+    ("constants", true, |quarters| vec![constants(&short_names(share(CONSTANTS, quarters)))]),
+    ("constants-one-bucket", true, |quarters| vec![constants(&short_names_in_one_bucket(share(CONSTANTS_IN_ONE_BUCKET, quarters)))]),
+    ("quantified", true, |quarters| vec![quantified(share(QUANTIFIED, quarters), share(QUANTIFIED_VARIABLES, quarters))]),
+    ("lets", true, |quarters| vec![lets(share(LETS, quarters), share(VARIABLES, quarters))]),
     ("numerals", false, |quarters| vec![numerals(quarters)]),
     ("strings", false, |quarters| vec![strings(quarters, |chance| 35 + chance.below(92) as u8)]),
     ("quotes", false, |quarters| vec![strings(quarters, |_| b'"')]),
@@ -41,8 +45,17 @@ const SORTS_OF_A_KVAR: usize = 4;
 const BINDERS: usize = 4000;
 const APPS: usize = 240;
 const VARIABLES: usize = 9000;
+const CONSTANTS: usize = 6000;
+const CONSTANTS_IN_ONE_BUCKET: usize = 4900;
+const QUANTIFIED: usize = 8000;
+const QUANTIFIED_VARIABLES: usize = 4000;
+const LETS: usize = 200;
 const STRING_BYTES: usize = 1000;
 const GENERATED: usize = 1000;
+
+/// What stands before the heads of `wide-kvars`, and before the applications of `names`.
+const WIDE_KVARS: &str = "k: 'p 1 v: 'k0 #1 0 h: 2 'x 0 #2 P P 1 #@";
+const NAMES: &str = "k: 'left 0 'right 0 f: 'merge #0 #2 0 0 1 0 h: 0 1 13 #@";
 
 /// The pieces of the drafts that expressions are taken from, and the bytes that each of these has at least.
 const PIECES: usize = 1500;
@@ -74,18 +87,31 @@ fn deep(quarters: usize) -> Vec<u8> {
     file
 }
 
+/// As many expressions as fit, and a constant for each name that is free in them.
 fn expressions(quarters: usize) -> Vec<u8> {
     let (mut chance, pieces) = (Chance::new(SEED), share(PIECES, quarters));
-    filled(quarters, "h: 1 #@", || format!("0 1 {}", as_words(&expression(&mut chance, pieces))))
+    let (mut names, mut heads, mut many, mut file) = (BTreeSet::new(), String::new(), 0, Vec::new());
+    loop {
+        let (expr, free) = expression(&mut chance, pieces);
+        names.extend(free);
+        many += 1;
+        heads += &format!("0 1 {expr} ");
+        let constants: String = names.iter().map(|name| format!("{name} 1 ")).collect();
+        let longer = packed(&format!("k: {constants} h: 1 #{many} {heads}"));
+        if longer.len() > share(LONGEST_FILE, quarters) {
+            return file;
+        }
+        file = longer;
+    }
 }
 
-/// The longest expression of a draft, if it is a large one; else that of another.
-fn expression(chance: &mut Chance, pieces: usize) -> Vec<u8> {
+/// The longest expression of a draft, if it is a large one, and the names that are free in it; else that of another. All in words.
+fn expression(chance: &mut Chance, pieces: usize) -> (String, Vec<String>) {
     loop {
         let draft = Draft::new(chance, Plan { pieces, items: 0, target: 0, chain: false });
         let exprs = draft.places.iter().filter(|place| place.spot == Spot::Piece('E'));
         if let Some(place) = exprs.max_by_key(|place| place.span.len()).filter(|place| place.span.len() >= LARGE) {
-            return draft.sections[place.section][place.span.clone()].to_vec();
+            return (as_words(draft.at(place)), draft.free(place).into_iter().map(as_words).collect());
         }
     }
 }
@@ -95,11 +121,51 @@ type Names = Vec<(String, String)>;
 
 fn numbered(many: usize) -> Names { (0..many).map(|i| (format!("D{i}"), format!("c{i}"))).collect() }
 
-/// Names that all fall into one of the 1,024 buckets of the archive's table of names.
+/// The place of a name among the 1,024 buckets of the archive's table of names.
+fn bucket(name: &str) -> usize { name.bytes().fold(0, |hash, byte| (31 * hash + byte as usize) % 1024) }
+
+/// Names that all fall into one bucket.
 fn in_one_bucket(many: usize) -> Names {
-    let bucket = |name: &String| name.bytes().fold(0, |hash, byte| (31 * hash + byte as usize) % 1024);
     let fallen = |letter: char| (0..).map(move |i| format!("{letter}{i:x}")).filter(move |name| bucket(name) == 0).take(many);
     fallen('D').zip(fallen('c')).collect()
+}
+
+/// All names of so many bytes, in the order of their bytes.
+fn names_of(length: u32) -> impl Iterator<Item = String> {
+    let signs: Vec<u8> = (b'!'..=b'~').filter(|byte| is_symbol(&[b'a', *byte])).collect();
+    (0..signs.len().pow(length)).filter_map(move |number| {
+        let name: Vec<u8> = (0..length).rev().map(|place| signs[number / signs.len().pow(place) % signs.len()]).collect();
+        is_symbol(&name).then(|| name.into_iter().map(char::from).collect())
+    })
+}
+
+/// The shortest names there are.
+fn short_names(many: usize) -> Vec<String> { (1..).flat_map(names_of).take(many).collect() }
+
+/// The shortest in one bucket: 5 of the names there have 2 bytes, 424 have 3, and the rest 4.
+fn short_names_in_one_bucket(many: usize) -> Vec<String> { (1..).flat_map(names_of).filter(|name| bucket(name) == 0).take(many).collect() }
+
+/// Constants, and an And of as many Vars, each of them once.
+fn constants(names: &[String]) -> Vec<u8> {
+    let (declared, used): (String, String) = names.iter().map(|name| (format!("'{name} 0 "), format!("5 '{name} "))).unzip();
+    packed(&format!("k: {declared} h: 0 1 13 #{} {used}", names.len()))
+}
+
+/// A Quantifier of so many names, and under it an And of so many Vars, which have the first of the names.
+fn quantified(many: usize, variables: usize) -> Vec<u8> {
+    let names = short_names(many);
+    let binders: String = names.iter().map(|name| format!("'{name} 0 ")).collect();
+    let vars: String = names.iter().take(variables).map(|name| format!("5 '{name} ")).collect();
+    packed(&format!("h: 0 1 20 1 #{many} {binders} 13 #{variables} {vars}"))
+}
+
+/// So many Lets, each the second operand of the one around it with that one's name as its value, and in the innermost an And of so many Vars, which
+/// have the names of the Lets in turns.
+fn lets(many: usize, variables: usize) -> Vec<u8> {
+    let names = short_names(many);
+    let around: String = (1..many).map(|i| format!("16 '{} 5 '{} ", names[i], names[i - 1])).collect();
+    let vars: String = names.iter().cycle().take(variables).map(|name| format!("5 '{name} ")).collect();
+    packed(&format!("h: 0 1 16 '{} 1 1 {around} 13 #{variables} {vars}", names[0]))
 }
 
 /// Datatypes with one constructor of one field, and KVars of sorts that are some of them.
@@ -115,8 +181,7 @@ fn datatypes(quarters: usize, names: &Names) -> Vec<u8> {
 /// So many constants, and in a Conj as many ForAlls without predicates over an empty Conj. Names have 2 bytes; there are 1,450 that no
 /// constant has, and the ForAlls have them in turns.
 fn binders(many: usize) -> Vec<u8> {
-    let pairs = (b'!'..=b'~').flat_map(|first| (b'!'..=b'~').map(move |second| [first, second]));
-    let names: Vec<String> = pairs.filter(|name| is_symbol(name)).map(|name| name.iter().map(|byte| *byte as char).collect()).collect();
+    let names: Vec<String> = names_of(2).collect();
     let constants: String = names[..many].iter().map(|name| format!("'{name} 0 ")).collect();
     let for_alls: String = names[BINDERS..].iter().cycle().take(many).map(|name| format!("2 '{name} 0 #0 C ")).collect();
     packed(&format!("k: {constants} h: 1 #{many} {for_alls}"))
@@ -125,7 +190,7 @@ fn binders(many: usize) -> Vec<u8> {
 /// So many Apps of one argument, each the head of the one around it, and in the innermost an And of so many variables as the head.
 fn applications(apps: usize, variables: usize) -> Vec<u8> {
     let [before, members, behind] = [("17 0 ", apps), ("5 'x ", variables), ("#1 5 'y ", apps)].map(|(words, many)| words.repeat(many));
-    packed(&format!("h: 0 1 {before} 13 #{variables} {members} {behind}"))
+    packed(&format!("k: 'x 1 'y 1 h: 0 1 {before} 13 #{variables} {members} {behind}"))
 }
 
 /// Numerals from 2^127 on, which have 39 digits.

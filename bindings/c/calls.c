@@ -82,16 +82,19 @@ static void refused(void) {
     expect(buf[0] == FILLED && length == 5, "a refusal changes nothing");
 }
 
-/* the bytes of a constraint, a file around them, and the number that every call answers to it */
-static void refused_with(uint8_t number, const uint8_t *constraint, size_t n) {
+/* the bytes of some KVars and of a constraint behind them, a file around them, and the number that every call answers to it */
+static void refused_behind(uint8_t number, size_t kvars, const uint8_t *sections, size_t n) {
     uint8_t file[64] = {0}, buf[1] = {FILLED};
     size_t sizes[4], length;
-    memcpy(file, constraint, n);
+    memcpy(file, sections, n);
+    file[n + 20] = (uint8_t)kvars;
     memcpy(file + n + 24, "HORN", 4);
-    expect(jiggerreef_survey(file, n + 28, sizes) == number, "survey refuses a form without a text with its number");
+    expect(jiggerreef_survey(file, n + 28, sizes) == number, "survey refuses a fault with its number");
     expect(jiggerreef_part(file, n + 28, 0, buf, 1, &length) == number, "so does part");
     expect(jiggerreef_script(file, n + 28, buf, 1, &length) == number && buf[0] == FILLED, "so does script, and changes nothing");
 }
+
+static void refused_with(uint8_t number, const uint8_t *constraint, size_t n) { refused_behind(number, 0, constraint, n); }
 
 /* ForAll x over a BitVec of Int; SetEmpty; a WKVar */
 static void forms(void) {
@@ -118,6 +121,25 @@ static void declared(void) {
     expect(jiggerreef_survey(file, N, sizes) == 0 && sizes[1] == 1, "under another name it is accepted");
 }
 
+/* the Var a, with nothing declared; IsCtor of a, likewise; the KVar k as a Var; the predicate k, undeclared; the KVar k over one Int, without an
+   argument and with one */
+static void known(void) {
+    static const uint8_t var[] = {0, 1, 5, 1, 'a'}, tester[] = {0, 1, 19, 1, 'a', 1, 1}, kvar[] = {0, 0, 1, 'k', 0, 0};
+    static const uint8_t as_var[] = {1, 'k', 1, 0, 0, 0, 1, 5, 1, 'k'}, fewer[] = {1, 'k', 1, 0, 0, 0, 0, 1, 'k', 0, 0};
+    static const uint8_t as_many[] = {1, 'k', 1, 0, 0, 0, 0, 1, 'k', 1, 0, 1, 1};
+    refused_with(10, var, sizeof var);
+    refused_with(10, tester, sizeof tester);
+    refused_with(10, kvar, sizeof kvar);
+    refused_behind(10, 5, as_var, sizeof as_var);
+    refused_behind(11, 5, fewer, sizeof fewer);
+    uint8_t file[sizeof as_many + 28] = {0};
+    size_t sizes[4];
+    memcpy(file, as_many, sizeof as_many);
+    file[sizeof as_many + 20] = 5;
+    memcpy(file + sizeof as_many + 24, "HORN", 4);
+    expect(jiggerreef_survey(file, sizeof file, sizes) == 0 && sizes[1] == 1, "with an argument it is accepted");
+}
+
 /* a head that is a string of one quotation mark */
 static void quoted(void) {
     static const uint8_t constraint[] = {0, 1, 3, 1, 0, '"'}, assertion[] = "(assert (=> (not \"\"\"\") false))\n";
@@ -141,6 +163,7 @@ int main(int argc, char **argv) {
     refused();
     forms();
     declared();
+    known();
     quoted();
     printf("%d passed, %d failed\n", passed, failed);
     return failed != 0;

@@ -19,6 +19,8 @@
  *   6       a body with another number of arguments than inputs
  *   7       a ForAll named like one around it
  *   15      a ForAll named like a constant, function, constructor, field or KVar
+ *   10      a name that is not known where it stands: of a Var, of an IsCtor that is no constructor, of a KVar predicate
+ *   11      a KVar with another number of arguments than its first declaration has sorts
  *   8       no such part
  *   9       the buffer is too short
  * They stand here in the order of judging, where 2 and 3 share a place: the first met. All but 8 and 9 are survey's, and every call's.

@@ -1,12 +1,12 @@
 //! Kinds of task files by chance: valid ones, ones with one fault or two, and damaged ones.
 use crate::chance::Chance;
-use crate::draft::{named, symbol, text, Draft, Place, Plan, Spot, DECLARED, HARMLESS};
+use crate::draft::{named, symbol, text, Draft, Place, Plan, Role, Spot, DECLARED, HARMLESS};
 use crate::task::{
-    is_symbol, CLASH, CONSTRAINT_CODES, DEEPEST, EXPR_CODES, FORMS, LONGEST_FILE, MAP_DEFAULT, NOTED, PRED_CODES, RESERVED, SET_EMPTY,
-    SORT_CODES, TRAILER,
+    is_symbol, CLASH, CONSTRAINT_CODES, DEEPEST, EXPR_CODES, FORMS, LONGEST_FILE, MAP_DEFAULT, MISCOUNTED, NOTED, PRED_CODES, REFUSALS,
+    RESERVED, SET_EMPTY, SORT_CODES, TRAILER, UNKNOWN,
 };
 use crate::words::{joined, offsets, sealed};
-use std::ops::Range;
+use std::{iter, ops::Range, ptr};
 use Make::{By, With};
 
 /// A file; the answer it was made for, if there is one: 0 for an accepted file, else the refusal; and the refusals of the two faults that were put
@@ -20,15 +20,16 @@ impl Case {
 /// A way to make a file: by itself, or a valid one with one fault that gets this refusal.
 pub enum Make { By(fn(&mut Chance) -> Case), With(u8, Fault) }
 
-/// What is put in place of the bytes of a span to make a draft faulty; nothing if the draft has no place for the fault. `kept` is a span of
-/// bytes elsewhere that the fault needs as they are, with its section.
+/// What is put in place of the bytes of a span to make a draft faulty; nothing if the draft has no place for the fault. `kept` are spans of
+/// bytes elsewhere that the fault needs as they are, with their sections; `absent` is a name behind its length, or nothing, that no other
+/// fault may put in.
 type Fault = fn(&Draft, &mut Chance) -> Option<Splice>;
-pub struct Splice { section: usize, span: Range<usize>, bytes: Vec<u8>, kept: Option<(usize, Range<usize>)> }
+pub struct Splice { section: usize, span: Range<usize>, bytes: Vec<u8>, kept: Vec<(usize, Range<usize>)>, absent: Vec<u8> }
 
 /// A kind of files: its name, its share among all, and how one is made.
 pub type Kind = (&'static str, usize, Make);
 
-pub const KINDS: [Kind; 45] = [
+pub const KINDS: [Kind; 73] = [
     ("tree", 200, By(|chance| valid(chance, SMALL))),
     ("middle", 40, By(|chance| valid(chance, Plan { pieces: 300, items: 5, ..SMALL }))),
     ("large", 2, By(|chance| valid(chance, Plan { pieces: 1500, items: 20, ..SMALL }))),
@@ -37,6 +38,7 @@ pub const KINDS: [Kind; 45] = [
     ("chain", 15, By(|chance| valid(chance, Plan { target: DEEPEST, chain: true, ..SMALL }))),
     ("size", 1, By(sized)),
     ("harmless-binder", 30, By(harmless_binder)),
+    ("kvar-again", 10, By(kvar_again)),
     ("1-length", 3, By(wrong_length)),
     ("1-mark", 3, By(wrong_mark)),
     ("1-offset", 12, By(wrong_offset)),
@@ -65,9 +67,36 @@ pub const KINDS: [Kind; 45] = [
     ("7-binder", 20, With(7, repeated_binder)),
     ("15-binder", 15, With(CLASH, declared_binder)),
     ("15-declared", 15, With(CLASH, binder_declared)),
+    ("10-var", 8, With(UNKNOWN, misspelt)),
+    ("10-head", 4, With(UNKNOWN, |draft, chance| unknown_as(draft, chance, Role::Head))),
+    ("10-let-value", 4, With(UNKNOWN, |draft, chance| unknown_as(draft, chance, Role::LetValue))),
+    ("10-guard", 4, With(UNKNOWN, |draft, chance| unknown_as(draft, chance, Role::Guard))),
+    ("10-body-head", 4, With(UNKNOWN, |draft, chance| unknown_as(draft, chance, Role::BodyHead))),
+    ("10-kvar-argument", 4, With(UNKNOWN, |draft, chance| unknown_as(draft, chance, Role::KVarArgument))),
+    ("10-function-body", 4, With(UNKNOWN, |draft, chance| unknown_as(draft, chance, Role::FunctionBody))),
+    ("10-tested", 4, With(UNKNOWN, |draft, chance| unknown_as(draft, chance, Role::Tested))),
+    ("10-quantified", 4, With(UNKNOWN, |draft, chance| unknown_as(draft, chance, Role::Quantified))),
+    ("10-own-let", 6, With(UNKNOWN, own_let)),
+    ("10-let-behind", 6, With(UNKNOWN, |draft, chance| behind(draft, chance, |spot| *spot == Spot::Name('L')))),
+    ("10-quant-behind", 6, With(UNKNOWN, |draft, chance| behind(draft, chance, |spot| *spot == Spot::Name('J')))),
+    ("10-arg-behind", 6, With(UNKNOWN, |draft, chance| behind(draft, chance, |spot| *spot == Spot::Name('G')))),
+    ("10-binder-behind", 6, With(UNKNOWN, |draft, chance| behind(draft, chance, is_binder))),
+    ("10-binder-before", 4, With(UNKNOWN, |draft, chance| out_of_scope(draft, chance, is_binder, Place::is_before))),
+    ("10-function", 6, With(UNKNOWN, |draft, chance| out_of_scope(draft, chance, |spot| *spot == Spot::Name('Y'), |_, _| true))),
+    ("10-kvar", 6, With(UNKNOWN, |draft, chance| out_of_scope(draft, chance, |spot| *spot == Spot::Name('Z'), |_, _| true))),
+    ("10-datatype", 6, With(UNKNOWN, |draft, chance| out_of_scope(draft, chance, |spot| *spot == Spot::Name('O'), |_, _| true))),
+    ("10-theory", 6, With(UNKNOWN, theory_symbol)),
+    ("10-tester", 12, With(UNKNOWN, no_ctor)),
+    ("10-predicate", 12, With(UNKNOWN, no_kvar)),
+    ("11-none", 8, With(MISCOUNTED, |draft, chance| miscounted(draft, chance, |sorts, _| (sorts > 0).then_some(0)))),
+    ("11-some", 8, With(MISCOUNTED, |draft, chance| miscounted(draft, chance, |sorts, any| (sorts == 0).then_some(1 + any)))),
+    ("11-other", 8, With(MISCOUNTED, |draft, chance| miscounted(draft, chance, |sorts, any| (sorts > 0 && 1 + any != sorts).then_some(1 + any)))),
+    ("11-again", 8, With(MISCOUNTED, kvar_before)),
     ("two-faults", 60, By(|chance| two_faults(chance, |_| true))),
     ("form-and-other", 60, By(|chance| two_faults(chance, |[a, b]| a != b && FORMS.contains(&a) && NOTED.contains(&b)))),
     ("clash-and-other", 40, By(|chance| two_faults(chance, |[a, b]| a == CLASH && b != a && NOTED.contains(&b)))),
+    ("name-and-other", 60, By(|chance| two_faults(chance, |[a, b]| a == UNKNOWN && b != a && NOTED.contains(&b)))),
+    ("count-and-other", 60, By(|chance| two_faults(chance, |[a, b]| a == MISCOUNTED && b != a && NOTED.contains(&b)))),
     ("border", 20, By(moved_border)),
     ("changed", 160, By(|chance| damaged(chance, change))),
     ("inserted", 60, By(|chance| damaged(chance, insert))),
@@ -109,14 +138,27 @@ fn sized(chance: &mut Chance) -> Case {
     Case::new(draft.file(), Some(over as u8))
 }
 
-/// A ForAll with a name that it may have: a harmless one, or one that is nearly declared.
+/// A ForAll with a name that it may have: a harmless one, or one that is nearly declared. The Vars that mean it are renamed too.
 fn harmless_binder(chance: &mut Chance) -> Case {
-    let (mut draft, splice) = drafted(chance, |draft, chance| {
+    let (mut draft, splices) = drafted(chance, |draft, chance| {
         let letter = HARMLESS[chance.below(HARMLESS.len())];
         let name = if chance.below(2) == 0 { draft.at(named_by(draft, chance, letter)?).to_vec() } else { nearly_declared(draft, chance)? };
         let taken = |place: &Place| is_taken(&place.spot) && draft.at(place) == name;
         let free = is_symbol(&name[1..]) && !draft.places.iter().any(taken);
-        Some(Splice::at(place(draft, chance, is_binder)?, name)).filter(|_| free)
+        let binder = place(draft, chance, is_binder).filter(|_| free)?;
+        let is_meant = |number: usize| ptr::eq(&draft.places[number], binder);
+        let means = |place: &&Place| is_var(&place.spot) && draft.meant(place, draft.at(place)).is_some_and(is_meant);
+        Some(iter::once(binder).chain(draft.places.iter().filter(means)).map(|place| Splice::at(place, name.clone())).collect::<Vec<_>>())
+    });
+    splices.into_iter().rev().for_each(|splice| splice.apply(&mut draft));
+    Case::new(draft.file(), Some(0))
+}
+
+/// A KVar declared again behind all others, with another number of sorts: the first counts.
+fn kvar_again(chance: &mut Chance) -> Case {
+    let (mut draft, splice) = drafted(chance, |draft, chance| {
+        let (place, end) = (named_by(draft, chance, 'H')?, draft.sections[4].len());
+        Some(Splice::new(4, end..end, another_kvar(draft, chance, draft.at(place))))
     });
     splice.apply(&mut draft);
     Case::new(draft.file(), Some(0))
@@ -136,16 +178,25 @@ fn nearly_declared(draft: &Draft, chance: &mut Chance) -> Option<Vec<u8>> {
 // ---- One fault
 
 impl Splice {
-    fn new(section: usize, span: Range<usize>, bytes: Vec<u8>) -> Self { Splice { section, span, bytes, kept: None } }
+    fn new(section: usize, span: Range<usize>, bytes: Vec<u8>) -> Self { Splice { section, span, bytes, kept: Vec::new(), absent: Vec::new() } }
     fn at(place: &Place, bytes: Vec<u8>) -> Self { Splice::new(place.section, place.span.clone(), bytes) }
 
     /// At one place what stands at another.
     fn copy(draft: &Draft, to: &Place, from: &Place) -> Self {
-        Splice { kept: Some((from.section, from.span.clone())), ..Splice::at(to, draft.at(from).to_vec()) }
+        Splice::at(to, draft.at(from).to_vec()).keeping(from)
+    }
+
+    /// A Var at a place, with a name behind its length that is to be unknown there.
+    fn var(to: &Place, name: Vec<u8>) -> Self { Splice { absent: name.clone(), ..Splice::at(to, [&[5], &name[..]].concat()) } }
+
+    fn keeping(mut self, place: &Place) -> Self {
+        self.kept.push((place.section, place.span.clone()));
+        self
     }
 
     fn apply(self, draft: &mut Draft) { drop(draft.sections[self.section].splice(self.span, self.bytes)) }
-    fn start(&self) -> (usize, usize) { (self.section, self.span.start) }
+    /// What stands in front of it starts before it, or is put in where it starts.
+    fn order(&self) -> (usize, usize, usize) { (self.section, self.span.start, self.span.end) }
 
     /// Whether it leaves the bytes of a span alone.
     fn spares(&self, section: usize, span: &Range<usize>) -> bool {
@@ -154,8 +205,12 @@ impl Splice {
 
     /// Whether the fault of another is there beside this one.
     fn goes_with(&self, other: &Splice) -> bool {
-        self.spares(other.section, &other.span) && other.kept.iter().all(|(section, span)| self.spares(*section, span))
+        let brings = |name: &[u8]| !name.is_empty() && self.bytes.windows(name.len()).any(|bytes| bytes == name);
+        self.spares(other.section, &other.span) && other.keeps_beside(self) && !brings(&other.absent)
     }
+
+    /// Whether what this fault needs is left alone by another.
+    fn keeps_beside(&self, other: &Splice) -> bool { self.kept.iter().all(|(section, span)| other.spares(*section, span)) }
 }
 
 /// A valid draft and what `fault` finds in it.
@@ -168,9 +223,13 @@ fn drafted<T>(chance: &mut Chance, fault: impl Fn(&Draft, &mut Chance) -> Option
     }
 }
 
-fn place<'d>(draft: &'d Draft, chance: &mut Chance, fits: impl Fn(&Spot) -> bool) -> Option<&'d Place> {
-    let places: Vec<&Place> = draft.places.iter().filter(|place| fits(&place.spot)).collect();
+fn place_of<'d>(draft: &'d Draft, chance: &mut Chance, fits: impl Fn(&Place) -> bool) -> Option<&'d Place> {
+    let places: Vec<&Place> = draft.places.iter().filter(|place| fits(place)).collect();
     if places.is_empty() { None } else { Some(places[chance.below(places.len())]) }
+}
+
+fn place<'d>(draft: &'d Draft, chance: &mut Chance, fits: impl Fn(&Spot) -> bool) -> Option<&'d Place> {
+    place_of(draft, chance, |place| fits(&place.spot))
 }
 
 fn wrong_length(chance: &mut Chance) -> Case {
@@ -223,6 +282,8 @@ fn wrong_choice(draft: &Draft, chance: &mut Chance) -> Option<Splice> {
 }
 
 fn is_name(spot: &Spot) -> bool { matches!(spot, Spot::Name(_) | Spot::Binder(_)) }
+fn is_var(spot: &Spot) -> bool { matches!(spot, Spot::Name('N' | 'n')) }
+fn is_expr(spot: &Spot) -> bool { matches!(spot, Spot::Piece('E') | Spot::Head) }
 fn is_binder(spot: &Spot) -> bool { matches!(spot, Spot::Binder(_)) }
 
 /// A name that a ForAll has or may not have.
@@ -315,7 +376,7 @@ fn width_elsewhere(draft: &Draft, chance: &mut Chance) -> Option<Splice> {
 }
 
 fn weak_kvar(draft: &Draft, chance: &mut Chance) -> Option<Splice> {
-    instead(draft, chance, &[6], |spot| matches!(spot, Spot::Piece('E') | Spot::Head))
+    instead(draft, chance, &[6], is_expr)
 }
 
 /// One of the two functions that need a sort.
@@ -369,18 +430,136 @@ fn binder_declared(draft: &Draft, chance: &mut Chance) -> Option<Splice> {
     Some(Splice::copy(draft, any_declared(draft, chance)?, place(draft, chance, is_binder)?))
 }
 
+// ---- Names that are not known. A place knows what is known there, so each of these can tell.
+
+/// A name that is nearly declared or new, behind its length.
+fn strange_name(draft: &Draft, chance: &mut Chance) -> Option<Vec<u8>> {
+    let name = if chance.below(2) == 0 { nearly_declared(draft, chance)? } else { named(symbol(chance).as_bytes()) };
+    is_symbol(&name[1..]).then_some(name)
+}
+
+/// A Var with a name that is not known in its place.
+fn misspelt(draft: &Draft, chance: &mut Chance) -> Option<Splice> {
+    let (place, name) = (place(draft, chance, is_var)?, strange_name(draft, chance)?);
+    draft.meant(place, &name).is_none().then(|| Splice { absent: name.clone(), ..Splice::at(place, name) })
+}
+
+/// A Var with a strange name in place of an expression with this role.
+fn unknown_as(draft: &Draft, chance: &mut Chance, role: Role) -> Option<Splice> {
+    let (place, name) = (place_of(draft, chance, |place| is_expr(&place.spot) && place.role == role)?, strange_name(draft, chance)?);
+    draft.meant(place, &name).is_none().then(|| Splice::var(place, name))
+}
+
+/// A Let's name in its first operand.
+fn own_let(draft: &Draft, chance: &mut Chance) -> Option<Splice> {
+    let value = place_of(draft, chance, |place| is_expr(&place.spot) && place.role == Role::LetValue)?;
+    let own = draft.places.iter().find(|place| place.spot == Spot::Name('L') && place.ends_at(value))?;
+    let name = draft.at(own).to_vec();
+    draft.meant(value, &name).is_none().then(|| Splice::var(value, name).keeping(own))
+}
+
+/// The name at a place of this kind as a Var elsewhere, where it is not known.
+fn out_of_scope(draft: &Draft, chance: &mut Chance, fits: fn(&Spot) -> bool, lies: fn(&Place, &Place) -> bool) -> Option<Splice> {
+    let (to, from) = (place(draft, chance, is_expr)?, place(draft, chance, fits)?);
+    let (name, splice) = (draft.at(from), Splice::var(to, draft.at(from).to_vec()).keeping(from));
+    (lies(to, from) && draft.meant(to, name).is_none() && splice.keeps_beside(&splice)).then_some(splice)
+}
+
+/// Such a name behind all that it holds for.
+fn behind(draft: &Draft, chance: &mut Chance, fits: fn(&Spot) -> bool) -> Option<Splice> {
+    out_of_scope(draft, chance, fits, |to, from| from.is_before(to))
+}
+
+/// A symbol that SMT-LIB gives a meaning, as a Var.
+fn theory_symbol(draft: &Draft, chance: &mut Chance) -> Option<Splice> {
+    let symbols = ["true", "false", "and", "or", "not", "=>", "=", "+", "-", "<=", "ite", "div", "select", "Int", "Bool"];
+    let (place, name) = (place(draft, chance, is_expr)?, named(symbols[chance.below(symbols.len())].as_bytes()));
+    draft.meant(place, &name).is_none().then(|| Splice::var(place, name))
+}
+
+/// A name with this letter or a strange one, behind its length; none of those with the other letter.
+fn other_name(draft: &Draft, chance: &mut Chance, letters: &[char], not: char) -> Option<Vec<u8>> {
+    let letter = letters[chance.below(letters.len())];
+    let name = if chance.below(4) == 0 { strange_name(draft, chance)? } else { draft.at(named_by(draft, chance, letter)?).to_vec() };
+    let is_one = draft.places.iter().any(|place| place.spot == Spot::Name(not) && draft.at(place) == name);
+    (!is_one).then_some(name)
+}
+
+/// An IsCtor of what is no constructor: a datatype, a field, a constant, a function, an argument, a KVar, or nothing.
+fn no_ctor(draft: &Draft, chance: &mut Chance) -> Option<Splice> {
+    let (place, name) = (named_by(draft, chance, 'W')?, other_name(draft, chance, &['O', 'I', 'X', 'Y', 'G', 'Z'], 'R')?);
+    Some(Splice { absent: name.clone(), ..Splice::at(place, name) })
+}
+
+/// A KVar predicate of what is no KVar: a constant, a function, a constructor, a field, a datatype, or nothing.
+fn no_kvar(draft: &Draft, chance: &mut Chance) -> Option<Splice> {
+    let (place, name) = (named_by(draft, chance, 'H')?, other_name(draft, chance, &['X', 'Y', 'R', 'I', 'O'], 'Z')?);
+    Some(Splice { absent: name.clone(), ..Splice::at(place, name) })
+}
+
+// ---- KVars with another number of arguments than sorts
+
+/// The place of the name in the first declaration of a KVar, and its number of sorts.
+fn declaration<'d>(draft: &'d Draft, name: &[u8]) -> Option<(&'d Place, usize)> {
+    let place = draft.places.iter().find(|place| place.spot == Spot::Name('Z') && draft.at(place) == name)?;
+    let count = &draft.sections[place.section][place.span.end..];
+    Some((place, count[0] as usize + 256 * count[1] as usize))
+}
+
+/// Another number of arguments, by the number of sorts and a number below 4.
+fn miscounted(draft: &Draft, chance: &mut Chance, other: fn(usize, usize) -> Option<usize>) -> Option<Splice> {
+    let args = place(draft, chance, |spot| *spot == Spot::Applied)?;
+    let name = draft.places.iter().find(|place| place.spot == Spot::Name('H') && place.ends_at(args))?;
+    let (declared, sorts) = declaration(draft, draft.at(name))?;
+    let many = other(sorts, chance.below(4))?;
+    let given = (0..many).flat_map(|_| [1, chance.below(2) as u8]).collect::<Vec<_>>();
+    let splice = Splice::at(args, [&(many as u16).to_le_bytes(), &given[..]].concat());
+    let item = Place { span: declared.span.start..declared.span.end + 2, ..declared.clone() };
+    Some(Splice { absent: draft.at(name).to_vec(), ..splice }.keeping(name).keeping(&item))
+}
+
+/// The item of a KVar with this name and another number of sorts than its declaration has.
+fn another_kvar(draft: &Draft, chance: &mut Chance, name: &[u8]) -> Vec<u8> {
+    let sorts = declaration(draft, name).map_or(0, |(_, sorts)| sorts);
+    let other = (sorts + 1 + chance.below(sorts + 3)) % (sorts + 4);
+    [name, &(other as u16).to_le_bytes(), &vec![0; other]].concat()
+}
+
+/// A KVar declared once more in front of the others.
+fn kvar_before(draft: &Draft, chance: &mut Chance) -> Option<Splice> {
+    let used = named_by(draft, chance, 'H')?;
+    let splice = Splice::new(4, 0..0, another_kvar(draft, chance, draft.at(used)));
+    Some(Splice { absent: draft.at(used).to_vec(), ..splice }.keeping(used))
+}
+
+/// The faults of one kind each that get a refusal.
+fn faults_of(refusal: u8) -> Vec<Fault> {
+    KINDS.iter().filter_map(|kind| if let With(own, fault) = kind.2 { Some(fault).filter(|_| own == refusal) } else { None }).collect()
+}
+
+/// Two refusals that are chosen, and a fault for each.
+fn two_of(chance: &mut Chance, chosen: fn([u8; 2]) -> bool) -> [(u8, Fault); 2] {
+    loop {
+        let two = [0, 1].map(|_| REFUSALS[1 + chance.below(REFUSALS.len() - 1)]);
+        if chosen(two) {
+            return two.map(|refusal| {
+                let faults = faults_of(refusal);
+                (refusal, faults[chance.below(faults.len())])
+            });
+        }
+    }
+}
+
 /// Two faults that do not touch, with refusals to choose from: the first of those with 2 or 3 is met, else the first judged is answered.
 fn two_faults(chance: &mut Chance, chosen: fn([u8; 2]) -> bool) -> Case {
-    let fault = |kind: &Kind| if let With(refusal, fault) = kind.2 { Some((refusal, fault)) } else { None };
-    let faults: Vec<(u8, Fault)> = KINDS.iter().filter_map(fault).collect();
     let (mut draft, mut two) = drafted(chance, |draft, chance| {
-        let [(first, one), (second, other)] = [0, 1].map(|_| faults[chance.below(faults.len())]);
-        let [a, b] = if chosen([first, second]) { [one(draft, chance)?, other(draft, chance)?] } else { return None };
+        let [(first, one), (second, other)] = two_of(chance, chosen);
+        let [a, b] = [one(draft, chance)?, other(draft, chance)?];
         // Two ForAlls with one declared name could be a repeat, which is another fault
         let alike = [first, second] == [CLASH; 2] && a.bytes == b.bytes;
         (a.goes_with(&b) && b.goes_with(&a) && !alike).then_some([(first, a), (second, b)])
     });
-    two.sort_by_key(|(_, splice)| splice.start());
+    two.sort_by_key(|(_, splice)| splice.order());
     let numbers = two.each_ref().map(|(refusal, _)| *refusal);
     two.into_iter().rev().for_each(|(_, splice)| splice.apply(&mut draft));
     let met = numbers.iter().find(|refusal| !NOTED.contains(refusal));

@@ -6,6 +6,7 @@ pub mod draft;
 pub mod faults;
 pub mod limits;
 pub mod returns;
+pub mod scope;
 pub mod shrink;
 pub mod strings;
 pub mod task;
@@ -35,7 +36,7 @@ mod tests {
     #[test]
     fn two_faults_put_into_a_file_both_hold() {
         let mut chance = Chance::new(SEED);
-        let kinds = KINDS.iter().filter(|kind| ["two-faults", "form-and-other", "clash-and-other"].contains(&kind.0));
+        let kinds = KINDS.iter().filter(|kind| kind.0 == "two-faults" || kind.0.ends_with("-and-other"));
         for case in kinds.flat_map(|kind| [kind; EACH]).map(|kind| kind.2.case(&mut chance)) {
             let pair = case.pair.expect("two faults");
             if pair.iter().all(|refusal| NOTED.contains(refusal)) {
@@ -62,5 +63,9 @@ mod tests {
         assert_eq!(smallest(&file, |file| checked(file).is_err_and(|refusal| refusal == 14)), packed("h: 1 #3 0 K 0 1 6 0 T"));
         let file = packed("c: \"long k: 'a 0 'b 1 v: 'k #0 h: 2 'y 0 #1 P 2 'a 0 #0 0 K");
         assert_eq!(smallest(&file, |file| checked(file).is_err_and(|refusal| refusal == 15)), packed("k: 'a 0 h: 2 'a 0 #0 0 K"));
+        let file = packed("c: \"long k: 'a 0 'b 1 v: 'k #1 0 h: 1 #3 0 T 2 'y 0 #1 1 5 'y 0 0 'k #1 5 'c 0 1 5 'b");
+        assert_eq!(smallest(&file, |file| checked(file).is_err_and(|refusal| refusal == 10)), packed("h: 0 1 5 'b"));
+        let file = packed("c: \"long k: 'a 0 'b 1 v: 'j #0 'k #1 0 h: 2 'y 0 #1 1 5 'y 0 0 'k #0");
+        assert_eq!(smallest(&file, |file| checked(file).is_err_and(|refusal| refusal == 11)), packed("v: 'k #1 0 h: 0 0 'k #0"));
     }
 }

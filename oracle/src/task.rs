@@ -1,4 +1,5 @@
 //! What a task file holds: its tree, and how a file is read into one or refused with a number.
+use crate::scope;
 use std::collections::HashSet;
 
 pub type Answer<T> = Result<T, u8>;
@@ -66,7 +67,7 @@ impl Pred<'_> {
 // ---- Reading. Refusals 1, 2 and 3 end it. What gets another is noted and reading goes on.
 
 /// The refusals of a file in the order of judging; of 2 and 3 the first met counts.
-pub const REFUSALS: [u8; 11] = [1, 2, 3, 4, NO_CTORS, WIDTH, UNQUALIFIED, WEAK, 6, 7, CLASH];
+pub const REFUSALS: [u8; 13] = [1, 2, 3, 4, NO_CTORS, WIDTH, UNQUALIFIED, WEAK, 6, 7, CLASH, UNKNOWN, MISCOUNTED];
 /// Those that are noted.
 pub const NOTED: &[u8] = REFUSALS.split_at(3).1;
 /// The forms that the source cannot write: a datatype without constructors, a BitVec over another sort than BvSize or a BvSize elsewhere,
@@ -78,6 +79,10 @@ const UNQUALIFIED: u8 = 13;
 const WEAK: u8 = 14;
 /// A ForAll that has the name of something declared.
 pub const CLASH: u8 = 15;
+/// A name that is not known where it stands.
+pub const UNKNOWN: u8 = 10;
+/// A KVar with another number of arguments than sorts.
+pub const MISCOUNTED: u8 = 11;
 
 pub const TRAILER: usize = 28;
 pub const LONGEST_FILE: usize = 60_000;
@@ -324,6 +329,9 @@ fn read(file: &[u8]) -> Answer<(Task<'_>, u32)> {
     let mut reader = Reader { bytes: &file[..file.len() - TRAILER], at: 0, end: 0, faults: 0, around: Vec::new() };
     let task = reader.task(&offsets)?;
     reader.note(clashes(&task.constraint, &declared(&task)), CLASH);
+    let found = scope::found(&task);
+    reader.note(found.unknown, UNKNOWN);
+    reader.note(found.miscounted, MISCOUNTED);
     Ok((task, reader.faults))
 }
 

@@ -10,6 +10,9 @@ pub const USUAL: &Usual = &[
     ("Y", "2 'y 0 #0"), ("Z", "2 'z 0 #0"),
 ];
 
+/// Declarations of the names in them.
+pub const DECLARED: &str = "k: 'e 1 'p 1 v: 'k #0";
+
 /// The bytes of one word, or nothing if it is no word of the notation.
 fn spelled(word: &str, usual: &Usual) -> Option<Vec<u8>> {
     let (first, rest) = word.split_at_checked(1)?;
@@ -59,6 +62,9 @@ pub fn joined(sections: &[Vec<u8>]) -> Vec<u8> { sealed(&sections.concat(), offs
 
 /// The file of words that are known to be right.
 pub fn packed(words: &str) -> Vec<u8> { joined(&sections(words, USUAL).unwrap_or_else(|word| panic!("no word: {word}"))) }
+
+/// The file of such words, with the usual names declared in front.
+pub fn closed(words: &str) -> Vec<u8> { packed(&format!("{DECLARED} {words}")) }
 
 /// The case that the papers work out.
 pub const S: &str = "k: 'n 0 v: 'k0 #1 0 \

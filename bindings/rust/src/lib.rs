@@ -19,7 +19,7 @@ pub struct Sizes {
     pub longest: usize,
 }
 
-/// The number of a refusal: 1 to 9 or 12 to 15. docs/REFUSALS.md says what each means.
+/// The number of a refusal: 1 to 15. docs/REFUSALS.md says what each means.
 #[derive(Debug, Clone, Copy, PartialEq, Eq)]
 pub struct Refusal(u8);
 
@@ -51,7 +51,7 @@ fn answer<T>(number: u8, stored: T) -> Result<T, Refusal> {
     if number == 0 { Ok(stored) } else { Err(Refusal(number)) }
 }
 
-/// The numbers of the task's script, or one of survey's refusals: 1 to 7 or 12 to 15.
+/// The numbers of the task's script, or one of survey's refusals: 1 to 7 or 10 to 15.
 pub fn survey(file: &[u8]) -> Result<Sizes, Refusal> {
     let mut sizes = [0; 4];
     // SAFETY: the pointers are those of a slice and of an array, which share no byte.

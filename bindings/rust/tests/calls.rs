@@ -92,8 +92,47 @@ fn a_for_all_named_like_something_declared_is_refused() {
         assert_eq!([number(survey(&file)), number(part(&file, 0, &mut buf)), number(script(&file, &mut buf))], [Some(15); 3]);
         assert!(buf.iter().all(|byte| *byte == FILLED));
     }
-    assert_eq!(number(survey(&file_with(2, b"\x03lin\0", MERGE))), None);
+    let mut renamed = file_with(2, b"\x03lim\0", MERGE);
+    renamed[26] = b'n';
+    assert_eq!(number(survey(&renamed)), None);
     assert_eq!(number(survey(&file_with(1, &[1, b'x', 0, 0, 1, 0, 1, b'c', 0, 0], FOR_ALL))), None);
+}
+
+/// A Var that nothing declares, alone, as an App's head, in the first operand of the Let of that name, and in a predicate of a ForAll without
+/// heads; one named like a KVar or like its own function; a ForAll's name in front of it; IsCtor of a constant; a predicate of a constant.
+#[test]
+fn a_name_that_is_not_known_is_refused() {
+    for file in [
+        file_with(0, &[], b"\0\x01\x05\x01a"),
+        file_with(0, &[], b"\0\x01\x11\0\x05\x01a\x01\0\x01\x01"),
+        file_with(0, &[], b"\0\x01\x10\x01a\x05\x01a\x01\x01"),
+        file_with(0, &[], b"\x02\x01x\0\x01\0\x01\x05\x01a\x01\0\0"),
+        file_with(4, b"\x01a\0\0", b"\0\x01\x05\x01a"),
+        file_with(3, b"\x01a\0\0\0\0\0\x01\0\0\x05\x01a", NOTHING),
+        file_with(0, &[], b"\x01\x02\0\0\x01\x05\x01x\x02\x01x\0\0\0\x01\0\0"),
+        file_with(2, b"\x01a\0", b"\0\x01\x13\x01a\x05\x01a"),
+        file_with(2, b"\x01a\x01", b"\0\0\x01a\0\0"),
+    ] {
+        let mut buf = [FILLED; 512];
+        assert_eq!([number(survey(&file)), number(part(&file, 0, &mut buf)), number(script(&file, &mut buf))], [Some(10); 3]);
+        assert!(buf.iter().all(|byte| *byte == FILLED));
+    }
+    assert_eq!(number(survey(&file_with(2, b"\x01a\0", b"\0\x01\x05\x01a"))), None);
+    assert_eq!(number(survey(&file_with(0, &[], b"\0\x01\x10\x01a\x01\x01\x05\x01a"))), None);
+}
+
+/// KVars over one Int, over none and two, and over one and two with one name, of which the first counts; heads with none to two arguments.
+#[test]
+fn a_kvar_takes_as_many_arguments_as_it_has_sorts() {
+    const HEADS: [&[u8]; 3] = [b"\0\0\x01k\0\0", b"\0\0\x01k\x01\0\x01\x01", b"\0\0\x01k\x02\0\x01\x01\x01\0"];
+    for (kvars, sorts) in [(&b"\x01k\x01\0\0"[..], 1), (b"\x01k\0\0", 0), (b"\x01k\x02\0\0\0", 2), (b"\x01k\x01\0\0\x01k\x02\0\0\0", 1)] {
+        for (args, head) in HEADS.iter().enumerate() {
+            let file = file_with(4, kvars, head);
+            let (due, mut buf) = ((args != sorts).then_some(11), [FILLED; 512]);
+            assert_eq!([number(survey(&file)), number(part(&file, 0, &mut buf)), number(script(&file, &mut [0; 512]))], [due; 3]);
+            assert!(due.is_none() || buf.iter().all(|byte| *byte == FILLED));
+        }
+    }
 }
 
 #[test]
@@ -124,15 +163,14 @@ fn the_deepest_tasks_fit_a_small_thread() {
     };
     let conj = |_: usize| vec![1, 1, 0];
     for piece in [&for_all as &dyn Fn(usize) -> Vec<u8>, &conj] {
-        let mut file: Vec<u8> = (0..254).flat_map(piece).collect();
-        file.extend([0, 0, 1, b'k', 0, 0]);
-        file.extend([0; 24]);
-        file.extend(b"HORN");
+        let mut constraint: Vec<u8> = (0..254).flat_map(piece).collect();
+        constraint.extend([0, 0, 1, b'k', 0, 0]);
+        let file = file_with(4, &[1, b'k', 0, 0], &constraint);
         let walked = move || {
             let sizes = survey(&file).unwrap();
-            assert_eq!((sizes.parts, sizes.assertions), (4, 1));
+            assert_eq!((sizes.parts, sizes.assertions), (5, 1));
             assert_eq!(script(&file, &mut vec![0; sizes.bytes]), Ok(sizes.bytes));
-            assert_eq!(part(&file, 2, &mut vec![0; sizes.longest]), Ok(sizes.longest));
+            assert!(part(&file, 3, &mut vec![0; sizes.longest]).is_ok());
         };
         std::thread::Builder::new().stack_size(640 << 10).spawn(walked).unwrap().join().unwrap();
     }

@@ -79,11 +79,11 @@ module _ (x : Res Pred) (v : Walked) (e : v ≡ walked predFault x) where
 
 -- the node of a head is known from its code
 pub head-node : (l : ℕ) (s : List ℕ) (at : ℕ) (b : Bool) → b ≡ isHead l s at → b ≡ true → (l ≡ 0 → ⊥) × ConstraintAt s at (constraint-node.Pred (at + 1))
-unfolding ConstraintAt constraintOf
+unfolding constraintOf
 head-node l s at b e t =
     let h = head-stands l s at b e t in
     let h0 = h .0 in
-    (λ q. absurd (omega arith), λ k d. coded-at (constraintForms k d) s at 0 (h .1) (h .2))
+    (λ q. absurd (omega arith), record { is = λ k d. coded-at (constraintForms k d) s at 0 (h .1) (h .2); behind = omega arith })
 
 -- a constraint by its node
 module _ (l : ℕ) (s : List ℕ) (at : ℕ) (around : List (List ℕ)) where
@@ -93,12 +93,12 @@ module _ (l : ℕ) (s : List ℕ) (at : ℕ) (around : List (List ℕ)) where
 
   module _ (node : ConstraintNode) (z : l ≡ 0 → ⊥) (h : ConstraintAt s at node) where
     pub by-node : (n : ConstraintNode) → node ≡ n → decConstraint l s at ≡ constraintOf s (l - 1) (decConstraint (l - 1)) n
-    unfolding decConstraint ConstraintAt
+    unfolding decConstraint
     by-node n e = go l z
       where
         go : (k : ℕ) → (k ≡ 0 → ⊥) → decConstraint k s at ≡ constraintOf s (k - 1) (decConstraint (k - 1)) n
         go zero z = absurd (z refl)
-        go (suc k) z = rw (sub-one (suc k)) (h k (decConstraint k) ∙ ap (constraintOf s k (decConstraint k)) e)
+        go (suc k) z = rw (sub-one (suc k)) (h .is k (decConstraint k) ∙ ap (constraintOf s k (decConstraint k)) e)
 
     pub constraint-pred : (p : ℕ) (c : Counted) → node ≡ constraint-node.Pred p → c ≡ tally predFault predHeads (decPred (l - 1) s p)
         → c ≡ tally (constraintFault around) headsOf (decConstraint l s at)

@@ -14,25 +14,23 @@ use Rattle.task.specs.declared.Number.the-variants as number-is
 use Rattle.task.specs.declared.Span.{Span}
 use Rattle.task.specs.declared.SpanRead.{SpanRead}
 use Rattle.task.specs.declared.SpanRead.the-variants as span-is
-use Rattle.task.specs.Ast.{Sorts, Binder, DataDecl, FunDef, KVarDecl}
-use Rattle.task.specs.Decode.{Res, got, refuse, bind, Decoder, refusal, raw, number, many, counted, name, flag, binder, decSort, dataCtor, datatype, constant, body, function, kvar, deepest}
-use Rattle.task.specs.Fault.{sortFault, datatypeFault, binderFault, functionFault, kvarFault}
+use Rattle.task.specs.Decode.{Res, got, refuse, bind, Decoder, refusal, raw, number, many, name, binder, decSort, dataCtor, datatype, deepest}
+use Rattle.task.specs.Fault.{sortFault}
 use Rattle.task.specs.Node.{bytesOf, spanOf, numberOf}
-use Rattle.task.proofs.Reading.{bind-got, got-refuse, same-value, number-got, raw-got, byte-fits}
+use Rattle.task.proofs.Reading.{bind-got, got-refuse, number-got, raw-got, byte-fits}
 use Rattle.task.proofs.Running.{Steps, Owing, owing-start, owing-more, owing-end}
 use Rattle.task_check.specs.declared.Walked.{Walked}
 use Rattle.task_check.specs.declared.Walked.the-variants as walked-is
 use Rattle.task_check.specs.Walk.{walked}
-use Rattle.task_check.proofs.Rows.{next-is, refused-is, made-ends, made-none}
-use Rattle.item_check.specs.declared.Section.{Section}
-use Rattle.item_check.specs.declared.Section.the-variants.{Comments, Datatypes, Constants, Functions, KVars}
-use Rattle.item_check.specs.Items.{itemWalk}
+use Rattle.task_check.proofs.Rows.{next-is, refused-is}
 use Rattle.names.specs.declared.Kind.{Kind}
 use Rattle.names.specs.declared.Kind.the-variants.{Datatype, Constructor}
 use Rattle.names.specs.Table.{numberOf as kindNumber, nameAt, hasName, Symbol, symbol, entries, Chained, add}
-use Rattle.names.specs.Change.{Pushed}
+use Rattle.names.specs.Change.{Kept, Pushed}
+use Rattle.names.proofs.Chains.{kept-all}
+use Rattle.names.proofs.Theorems.{kept-both}
 use Rattle.declared.specs.Symbols.{alone, together, named, fieldSymbols, ctorSymbols, ctorsSymbols, datatypeSymbols}
-use Rattle.declared.specs.Gather.{adds, Ready, Collects, nameIn}
+use Rattle.declared.specs.Gather.{adds, Ready, Collects}
 
 -- ADDING
 
@@ -49,11 +47,11 @@ row-steps n symbols = record { none = λ es. refl; step = λ es a xs. adds-appen
 -- A NAME
 
 -- a name that is decoded stands at its place
-record Stands (s : List ℕ) (at : ℕ) (x : List ℕ) : Type 0 where
-  has : hasName s at ≡ true
-  is : nameAt s at ≡ x
+pub record Stands (s : List ℕ) (at : ℕ) (x : List ℕ) : Type 0 where
+  pub has : hasName s at ≡ true
+  pub is : nameAt s at ≡ x
 
-stands : (s : List ℕ) (at : ℕ) (x : List ℕ) (p : ℕ) → length s ≤ 65535 → name s at ≡ got x p → Stands s at x
+pub stands : (s : List ℕ) (at : ℕ) (x : List ℕ) (p : ℕ) → length s ≤ 65535 → name s at ≡ got x p → Stands s at x
 unfolding hasName nameAt
 stands s at x p l e =
     let i = bind-got (number 1 s at) (λ n q. cond (eqb n 0) (refusal 2) (raw n) s q) x p e in
@@ -88,11 +86,11 @@ module _ (s t u : List ℕ) (at k : ℕ) (l : length s ≤ 65535) (w : Pushed s 
 module _ {A : Type 0} (symbols : A → List Symbol) (s t : List ℕ) (c : Chained s t) (r : ℕ) where
   -- nothing was decoded
   pub none-collects : (d : Res A) (k : ℕ) → d ≡ refuse k → Collects symbols d s t t r
-  none-collects d k e = record { chained = c; words = refl; runs = λ a p g. got-refuse (sym g ∙ e) }
+  none-collects d k e = record { chained = c; kept = kept-all t; words = refl; runs = λ a p g. got-refuse (sym g ∙ e) }
 
   -- nothing was decoded behind a name
   pub some-collects : (u : List ℕ) (at n : ℕ) (d : Res A) (k : ℕ) → Pushed s t at n u → d ≡ refuse k → Collects symbols d s t u r
-  some-collects u at n d k w e = record { chained = w .chained; words = w .words; runs = λ a p g. got-refuse (sym g ∙ e) }
+  some-collects u at n d k w e = record { chained = w .chained; kept = w .kept; words = w .words; runs = λ a p g. got-refuse (sym g ∙ e) }
 
 -- a piece without names is walked over
 pub skip-collects : {A : Type 0} (fault : A → Fault) (d : Res A) (s u : List ℕ) (v : Walked) (q : ℕ) (f : Fault) → Chained s u → v ≡ walked fault d → v ≡ walked-is.Next q f
@@ -100,7 +98,7 @@ pub skip-collects : {A : Type 0} (fault : A → Fault) (d : Res A) (s u : List �
 unfolding adds
 skip-collects fault d s u v q f c e g =
     let y = next-is fault d q f (sym g ∙ e) in
-    record { chained = c; words = refl; runs = λ a p h. let z : got (y .value) q ≡ got a p = sym (y .is) ∙ h in (cc, refl) }
+    record { chained = c; kept = kept-all u; words = refl; runs = λ a p h. let z : got (y .value) q ≡ got a p = sym (y .is) ∙ h in (cc, refl) }
 
 -- a piece that begins with its name
 module _ {A B : Type 0} (symbols : A → List Symbol) (parts : B → List Symbol) (make : B → A) (s t u v : List ℕ) (at k : ℕ) (x : List ℕ) (p r : ℕ) where
@@ -109,6 +107,7 @@ module _ {A B : Type 0} (symbols : A → List Symbol) (parts : B → List Symbol
   made-collects d rest e l w h m c =
       record {
         chained = c .chained;
+        kept = kept-both t u v (w .kept) (c .kept);
         words = c .words ∙ w .words;
         runs = λ a q g.
             let i = bind-got rest (λ b q. got (make b) q) a q (sym e ∙ g) in
@@ -126,6 +125,9 @@ module _ {A B : Type 0} (symbols : A → List Symbol) (parts : B → List Symbol
 
 module _ (s t : List ℕ) (at : ℕ) (v : SpanRead) (h : name s at ≡ spanOf s v) where
   -- there is no name
+  pub no-name : (kind : Kind) (r : ℕ) → Ready s t → v ≡ span-is.Refused → Collects (alone kind) (name s at) s t t r
+  no-name kind r c e = none-collects (alone kind) s t (c .chained) r (name s at) 2 (h ∙ ap (spanOf s) e)
+
   pub unnamed : {A : Type 0} (symbols : A → List Symbol) (k : List ℕ → ℕ → Res A) (r : ℕ) → Ready s t → v ≡ span-is.Refused → Collects symbols (bind (name s at) k) s t t r
   unnamed symbols k r c e = none-collects symbols s t (c .chained) r (bind (name s at) k) 2 (ap (λ (y : Res (List ℕ)). bind y k) (h ∙ ap (spanOf s) e))
 
@@ -133,18 +135,30 @@ module _ (s t : List ℕ) (at : ℕ) (v : SpanRead) (h : name s at ≡ spanOf s 
     is-name : name s at ≡ got (bytesOf s x) p
     is-name = h ∙ ap (spanOf s) e
 
-    -- a name with its sort
-    pub unsorted : (kind : Kind) (u : List ℕ) (z : Walked) (n r : ℕ) → Pushed s t at (kindNumber kind) u → z ≡ walked (sortFault false) (decSort deepest s p) → z ≡ walked-is.Refused n
-        → Collects (named kind) (binder deepest s at) s t u r
-    unsorted kind u z n r w e1 e2 =
-        some-collects (named kind) s t (l .chained) r u at (kindNumber kind) (binder deepest s at) n w
-        (rw (is-name, refused-is (sortFault false) (decSort deepest s p) n (sym e2 ∙ e1)))
+    -- a name
+    pub name-collected : (kind : Kind) (u : List ℕ) → Pushed s t at (kindNumber kind) u → Collects (alone kind) (name s at) s t u p
+    name-collected kind u w =
+        record {
+          chained = w .chained;
+          kept = w .kept;
+          words = w .words;
+          runs = λ y q g.
+              let i : got (bytesOf s x) p ≡ got y q = sym is-name ∙ g in
+              (cc, name-added s t u at (kindNumber kind) (l .short) w y q g);
+        }
 
-    pub sorted : (kind : Kind) (u : List ℕ) (z : Walked) (q : ℕ) (f : Fault) → Pushed s t at (kindNumber kind) u → z ≡ walked (sortFault false) (decSort deepest s p) → z ≡ walked-is.Next q f
-        → Collects (named kind) (binder deepest s at) s t u q
-    sorted kind u z q f w e1 e2 =
-        made-collects (named kind) (λ b. []) (λ b. record { name = bytesOf s x; sort = b }) s t u u at (kindNumber kind) (bytesOf s x) p q (binder deepest s at) (decSort deepest s p)
-        (rw is-name) (l .short) w is-name (λ b. refl) (skip-collects (sortFault false) (decSort deepest s p) s u z q f (w .chained) e1 e2)
+    -- a name with its sort
+    pub unsorted : (levels : ℕ) (kind : Kind) (u : List ℕ) (z : Walked) (n r : ℕ) → Pushed s t at (kindNumber kind) u → z ≡ walked (sortFault false) (decSort levels s p) → z ≡ walked-is.Refused n
+        → Collects (named kind) (binder levels s at) s t u r
+    unsorted levels kind u z n r w e1 e2 =
+        some-collects (named kind) s t (l .chained) r u at (kindNumber kind) (binder levels s at) n w
+        (rw (is-name, refused-is (sortFault false) (decSort levels s p) n (sym e2 ∙ e1)))
+
+    pub sorted : (levels : ℕ) (kind : Kind) (u : List ℕ) (z : Walked) (q : ℕ) (f : Fault) → Pushed s t at (kindNumber kind) u → z ≡ walked (sortFault false) (decSort levels s p) → z ≡ walked-is.Next q f
+        → Collects (named kind) (binder levels s at) s t u q
+    sorted levels kind u z q f w e1 e2 =
+        made-collects (named kind) (λ b. []) (λ b. record { name = bytesOf s x; sort = b }) s t u u at (kindNumber kind) (bytesOf s x) p q (binder levels s at) (decSort levels s p)
+        (rw is-name) (l .short) w is-name (λ b. refl) (skip-collects (sortFault false) (decSort levels s p) s u z q f (w .chained) e1 e2)
 
     -- a constructor
     module _ (m : Number) (g : number 2 s p ≡ numberOf m) where
@@ -171,96 +185,6 @@ module _ (s t : List ℕ) (at : ℕ) (v : SpanRead) (h : name s at ≡ spanOf s 
             made-collects datatypeSymbols ctorsSymbols (λ cs. record { name = bytesOf s x; vars = vars; ctors = cs }) s t u v at (kindNumber Datatype) (bytesOf s x) p r (datatype s at)
             (many [] _∷_ dataCtor n s q') (rw (is-name, g ∙ ap numberOf e', j ∙ ap numberOf e'')) (l .short) w is-name (λ cs. refl) c
 
--- ITEMS
-
--- an item has the name that it begins with
-record Begins (s : List ℕ) (at : ℕ) (x : List ℕ) : Type 0 where
-  next : ℕ
-  is : name s at ≡ got x next
-
-module _ (s : List ℕ) (at : ℕ) where
-  datatype-begins : (d : DataDecl) (q : ℕ) → datatype s at ≡ got d q → Begins s at (d .name)
-  datatype-begins d q e =
-      let i = bind-got (name s at) _ d q e in
-      let j = bind-got (number 2 s (i .next)) _ d q (i .then) in
-      let k = bind-got (counted [] _∷_ dataCtor s (j .next)) _ d q (j .then) in
-      let z : _≡_ {A = DataDecl} (record { name = i .value; vars = j .value; ctors = k .value }) d = same-value (k .then) in
-      record { next = i .next; is = i .first ∙ ap (λ (y : DataDecl). got (y .name) (i .next)) z }
-
-  constant-begins : (b : Binder) (q : ℕ) → constant s at ≡ got b q → Begins s at (b .name)
-  constant-begins b q e =
-      let i = bind-got (name s at) _ b q e in
-      let j = bind-got (decSort deepest s (i .next)) _ b q (i .then) in
-      let z : _≡_ {A = Binder} (record { name = i .value; sort = j .value }) b = same-value (j .then) in
-      record { next = i .next; is = i .first ∙ ap (λ (y : Binder). got (y .name) (i .next)) z }
-
-  function-begins : (f : FunDef) (q : ℕ) → function s at ≡ got f q → Begins s at (f .name)
-  function-begins f q e =
-      let i = bind-got (name s at) _ f q e in
-      let j = bind-got (number 2 s (i .next)) _ f q (i .then) in
-      let k = bind-got (counted Sorts.none Sorts.more (decSort deepest) s (j .next)) _ f q (j .then) in
-      let l = bind-got (decSort deepest s (k .next)) _ f q (k .then) in
-      let m = bind-got (flag s (l .next)) _ f q (l .then) in
-      let n = bind-got (body (m .value) s (m .next)) _ f q (m .then) in
-      let z : _≡_ {A = FunDef} (record { name = i .value; params = j .value; inputs = k .value; output = l .value; body = n .value }) f = same-value (n .then) in
-      record { next = i .next; is = i .first ∙ ap (λ (y : FunDef). got (y .name) (i .next)) z }
-
-  kvar-begins : (k : KVarDecl) (q : ℕ) → kvar s at ≡ got k q → Begins s at (k .kvid)
-  kvar-begins k q e =
-      let i = bind-got (name s at) _ k q e in
-      let j = bind-got (counted Sorts.none Sorts.more (decSort deepest) s (i .next)) _ k q (i .then) in
-      let z : _≡_ {A = KVarDecl} (record { kvid = i .value; sorts = j .value }) k = same-value (j .then) in
-      record { next = i .next; is = i .first ∙ ap (λ (y : KVarDecl). got (y .kvid) (i .next)) z }
-
--- a name taken of an item
-own-begins : {A : Type 0} (own : A → List ℕ) (s : List ℕ) (at : ℕ) (x : Res A) → ((a : A) (q : ℕ) → x ≡ got a q → Begins s at (own a)) → (w : List ℕ) (p : ℕ)
-    → bind x (λ a q. got (own a) q) ≡ got w p → Begins s at w
-own-begins own s at x h w p e =
-    let i = bind-got x (λ a q. got (own a) q) w p e in
-    let y = h (i .value) (i .next) (i .first) in
-    let z : own (i .value) ≡ w = cc in
-    record { next = y .next; is = y .is ∙ ap (λ (v : List ℕ). got v (y .next)) z }
-
-module _ (s : List ℕ) (at : ℕ) (v : Walked) (x : List ℕ) (p : ℕ) where
-  item-begins : (i : Section) → nameIn i s at ≡ got x p → Begins s at x
-  unfolding nameIn
-  item-begins Comments e = got-refuse (sym e)
-  item-begins Datatypes e = own-begins (λ d. d .name) s at (datatype s at) (datatype-begins s at) x p e
-  item-begins Constants e = own-begins (λ b. b .name) s at (constant s at) (constant-begins s at) x p e
-  item-begins Functions e = own-begins (λ f. f .name) s at (function s at) (function-begins s at) x p e
-  item-begins KVars e = own-begins (λ k. k .kvid) s at (kvar s at) (kvar-begins s at) x p e
-
-  item-ends : (i : Section) (q : ℕ) (f : Fault) → v ≡ itemWalk i s at → v ≡ walked-is.Next q f → nameIn i s at ≡ got x p → q ≡ p
-  unfolding nameIn itemWalk
-  item-ends Comments q f e e' g = got-refuse (sym g)
-  item-ends Datatypes q f e e' g = made-ends datatypeFault (λ d. d .name) (datatype s at) v e x p g q f e'
-  item-ends Constants q f e e' g = made-ends binderFault (λ b. b .name) (constant s at) v e x p g q f e'
-  item-ends Functions q f e e' g = made-ends functionFault (λ h. h .name) (function s at) v e x p g q f e'
-  item-ends KVars q f e e' g = made-ends kvarFault (λ k. k .kvid) (kvar s at) v e x p g q f e'
-
-  no-item : {B : Type 0} (i : Section) (k : ℕ) → v ≡ itemWalk i s at → v ≡ walked-is.Refused k → nameIn i s at ≡ got x p → B
-  unfolding nameIn itemWalk
-  no-item Comments k e e' g = got-refuse (sym g)
-  no-item Datatypes k e e' g = made-none datatypeFault (λ d. d .name) (datatype s at) v e x p g k e'
-  no-item Constants k e e' g = made-none binderFault (λ b. b .name) (constant s at) v e x p g k e'
-  no-item Functions k e e' g = made-none functionFault (λ h. h .name) (function s at) v e x p g k e'
-  no-item KVars k e e' g = made-none kvarFault (λ h. h .kvid) (kvar s at) v e x p g k e'
-
-module _ (s t : List ℕ) (at : ℕ) (i : Section) (kind : Kind) (v : Walked) where
-  pub named-none : (r k : ℕ) → Ready s t → v ≡ itemWalk i s at → v ≡ walked-is.Refused k → Collects (alone kind) (nameIn i s at) s t t r
-  named-none r k c e e' = record { chained = c .chained; words = refl; runs = λ x p g. no-item s at v x p i k e e' g }
-
-  pub named-collected : (u : List ℕ) (q : ℕ) (f : Fault) → Ready s t → v ≡ itemWalk i s at → v ≡ walked-is.Next q f → Pushed s t at (kindNumber kind) u
-      → Collects (alone kind) (nameIn i s at) s t u q
-  named-collected u q f c e e' w =
-      record {
-        chained = w .chained;
-        words = w .words;
-        runs = λ x p g.
-            let y = item-begins s at v x p i g in
-            (item-ends s at v x p i q f e e' g, name-added s t u at (kindNumber kind) (c .short) w x (y .next) (y .is));
-      }
-
 -- after a push the table is ready for the next
 pub pushed-ready : (s t u : List ℕ) (at k : ℕ) → Ready s t → Pushed s t at k u → Ready s u
 pushed-ready s t u at k r w = record { chained = w .chained; short = r .short }
@@ -271,17 +195,19 @@ module _ {A : Type 0} (symbols : A → List Symbol) (d : Decoder A) (s t : List 
   -- the loop: n pieces from p on are left, and t has become u
   pub record Walking (u : List ℕ) (n p : ℕ) : Type 0 where
     pub ready : Ready s u
+    pub kept : Kept t u
     pub words : length u ≡ length t
     pub owing : Owing (row-steps (length t) symbols) (many [] _∷_ d m s at) (entries s t) (many [] _∷_ d n s p) (entries s u)
 
   pub walking-start : Ready s t → Walking t m at
-  walking-start r = record { ready = r; words = refl; owing = owing-start (row-steps (length t) symbols) (many [] _∷_ d m s at) (entries s t) }
+  walking-start r = record { ready = r; kept = kept-all t; words = refl; owing = owing-start (row-steps (length t) symbols) (many [] _∷_ d m s at) (entries s t) }
 
   pub walking-more : (u v : List ℕ) (n p q : ℕ) → Walking u n p → 0 < n → Collects symbols (d s p) s u v q → Walking v (n - 1) q
   walking-more u v zero p q w h c = absurd (omega arith)
   walking-more u v (suc n) p q w h c =
       record {
         ready = record { chained = c .chained; short = w .ready .short };
+        kept = kept-both t u v (w .kept) (c .kept);
         words = c .words ∙ w .words;
         owing = rw (sub-one (suc n))
             (owing-more (row-steps (length t) symbols) (many [] _∷_ d m s at) (entries s t) (d s p) (many [] _∷_ d n s) (entries s u) (entries s v) q (w .owing)
@@ -293,6 +219,7 @@ module _ {A : Type 0} (symbols : A → List Symbol) (d : Decoder A) (s t : List 
       let z : n ≡ 0 = omega arith in
       record {
         chained = w .ready .chained;
+        kept = w .kept;
         words = w .words;
         runs = owing-end (row-steps (length t) symbols) (many [] _∷_ d m s at) (entries s t) p (entries s u) (rw z at (w .owing));
       }

@@ -1,5 +1,5 @@
--- At least three bytes belong to each name that a task declares: `task-few`. So a table with as many words for entries as the file has bytes
--- has room for all.
+-- At least three bytes belong to each name that a task declares: `symbols-few`, `kvars-few`. So a table with as many words for entries as the
+-- file has bytes has room for all.
 use mathlib.Core.Path.{_≡_, sym, ap, _∙_}
 use mathlib.Core.Bool.{Bool, true, false, cond}
 use mathlib.Core.List.{List, [], _∷_, _++_, append-nil, append-assoc}
@@ -8,17 +8,17 @@ use native.Mathlib.Omega.{arith}
 use lib.Dec.{leb}
 use lib.ListN.{length, take, length-append, length-take}
 use borrow.Author.Tests.{lt-ltb, le-leb}
+use Rattle.task.specs.Ast.{FunDef, KVarDecl}
 use Rattle.task.specs.Covers.{Covers}
-use Rattle.task.specs.Decode.{Decoder, got, bind, give, _▹_, number, many, counted, name, decSort, binder, dataCtor, datatype, constant, function, kvar, items, section, deepest}
+use Rattle.task.specs.Decode.{Decoder, got, bind, give, _▹_, number, many, counted, name, decSort, binder, dataCtor, datatype, constant, kvar, items, section, deepest, function}
 use Rattle.task.proofs.Reading.{bind-got}
 use Rattle.task.proofs.Covering.{covers-refusal, covers-give, covers-bind, covers-many, covers-number}
-use Rattle.task.proofs.Pieces.{each-covers, wide-names, wide-counted, wide-functions, wide-kvars}
+use Rattle.task.proofs.Pieces.{each-covers, wide-names, wide-counted, wide-kvars, wide-functions}
 use Rattle.item_check.specs.declared.Section.{Section}
 use Rattle.item_check.specs.declared.Section.the-variants.{Comments, Datatypes, Constants, Functions, KVars}
-use Rattle.names.specs.declared.Kind.{Kind}
 use Rattle.names.specs.declared.Kind.the-variants.{Constant}
 use Rattle.names.specs.Table.{Symbol, roomFor, add}
-use Rattle.declared.specs.Symbols.{together, named, fieldSymbols, ctorSymbols, ctorsSymbols, datatypeSymbols, functionSymbols, kvarSymbols}
+use Rattle.declared.specs.Symbols.{together, named, fieldSymbols, ctorSymbols, ctorsSymbols, datatypeSymbols}
 use Rattle.declared.specs.Gather.{adds, itemSymbols}
 
 -- BYTES FOR SYMBOLS
@@ -60,39 +60,49 @@ unfolding itemSymbols
 items-wide Comments = covers-refusal owed 2
 items-wide Datatypes = taken-wide datatypeSymbols datatype datatypes-wide
 items-wide Constants = taken-wide (named Constant) constant binders-wide
-items-wide Functions = taken-wide functionSymbols function wide-functions
-items-wide KVars = taken-wide kvarSymbols kvar wide-kvars
+items-wide Functions = covers-refusal owed 2
+items-wide KVars = covers-refusal owed 2
 
--- the items of a section
-module _ (i : Section) (s : List ℕ) where
-  section-owed : (n at : ℕ) (xs : List (List Symbol)) (q : ℕ) → at ≤ length s → items n (itemSymbols i) s at ≡ got xs q → owed (together xs) ≤ length s - at
+-- the items of a section, where one more adds no more than its size
+module _ {A : Type 0} (size : A → ℕ) (total : List A → ℕ) (none : total [] ≤ 0) (more : (a : A) (xs : List A) → total (a ∷ xs) ≤ size a + total xs) (d : Decoder A) (wide : Covers size d) where
+  section-owed : (s : List ℕ) (n at : ℕ) (xs : List A) (q : ℕ) → at ≤ length s → items n d s at ≡ got xs q → total xs ≤ length s - at
   unfolding items
-  section-owed zero at xs q h e = let z : [] ≡ xs = cc in rw (← z) (omega arith)
-  section-owed (suc n) at xs q h e = go (leb (length s) at) e (λ p ys r l g. section-owed n p ys r l g)
+  section-owed s zero at xs q h e = let z : [] ≡ xs = cc in rw (← z) (omega arith)
+  section-owed s (suc n) at xs q h e = go (leb (length s) at) e (λ p ys r l g. section-owed s n p ys r l g)
     where
-      go : (t : Bool) → cond t (got [] at) (bind (itemSymbols i s at) (λ a p. bind (items n (itemSymbols i) s p) (λ b r. got (a ∷ b) r))) ≡ got xs q
-          → ((p : ℕ) (ys : List (List Symbol)) (r : ℕ) → p ≤ length s → items n (itemSymbols i) s p ≡ got ys r → owed (together ys) ≤ length s - p)
-          → owed (together xs) ≤ length s - at
+      go : (t : Bool) → cond t (got [] at) (bind (d s at) (λ a p. bind (items n d s p) (λ b r. got (a ∷ b) r))) ≡ got xs q
+          → ((p : ℕ) (ys : List A) (r : ℕ) → p ≤ length s → items n d s p ≡ got ys r → total ys ≤ length s - p)
+          → total xs ≤ length s - at
       go true e rec = let z : [] ≡ xs = cc in rw (← z) (omega arith)
       go false e rec =
-          let x = bind-got (itemSymbols i s at) (λ a p. bind (items n (itemSymbols i) s p) (λ b r. got (a ∷ b) r)) xs q e in
-          let y = bind-got (items n (itemSymbols i) s (x .next)) (λ b r. got (x .value ∷ b) r) xs q (x .then) in
-          let u = items-wide i .covered s at (x .value) (x .next) (x .first) in
+          let x = bind-got (d s at) (λ a p. bind (items n d s p) (λ b r. got (a ∷ b) r)) xs q e in
+          let y = bind-got (items n d s (x .next)) (λ b r. got (x .value ∷ b) r) xs q (x .then) in
+          let u = wide .covered s at (x .value) (x .next) (x .first) in
           let b = inside at (x .next) (u .n) h (u .end) (u .inside) in
           let k = rec (x .next) (y .value) (y .next) b (y .first) in
           let z : x .value ∷ y .value ≡ xs = cc in
-          rw (← z) (omega (arith, length-append (x .value) (together (y .value)), u .room, u .end))
+          rw (← z) (omega (arith, more (x .value) (y .value), u .room, u .end))
         where
           inside : (at p n : ℕ) → at ≤ length s → p ≡ at + n → (0 < n → p ≤ length s) → p ≤ length s
           inside at p zero h e f = omega arith
           inside at p (suc n) h e f = f (omega arith)
 
--- a section of the file
-pub section-few : (file : List ℕ) (i : Section) (at end : ℕ) (xs : List (List Symbol)) (q : ℕ) → at ≤ end → end ≤ length file → section (itemSymbols i) (take end file) at ≡ got xs q
+  -- a section of the file
+  section-few : (file : List ℕ) (at end : ℕ) (xs : List A) (q : ℕ) → at ≤ end → end ≤ length file → section d (take end file) at ≡ got xs q → total xs ≤ end - at
+  section-few file at end xs q h l e =
+      let k = length-take end file in
+      omega (arith, section-owed (take end file) (length (take end file)) at xs q (omega arith) e)
+
+-- the symbols of a section, and its KVars
+pub symbols-few : (i : Section) (file : List ℕ) (at end : ℕ) (xs : List (List Symbol)) (q : ℕ) → at ≤ end → end ≤ length file → section (itemSymbols i) (take end file) at ≡ got xs q
     → 3 * length (together xs) ≤ end - at
-section-few file i at end xs q h l e =
-    let k = length-take end file in
-    omega (arith, section-owed i (take end file) (length (take end file)) at xs q (omega arith) e)
+symbols-few i = section-few owed (λ xs. owed (together xs)) (omega arith) (λ es xs. omega (arith, length-append es (together xs))) (itemSymbols i) (items-wide i)
+
+pub kvars-few : (file : List ℕ) (at end : ℕ) (ks : List KVarDecl) (q : ℕ) → at ≤ end → end ≤ length file → section kvar (take end file) at ≡ got ks q → 3 * length ks ≤ end - at
+kvars-few = section-few (λ k. 3) (λ ks. 3 * length ks) (omega arith) (λ k ks. omega arith) kvar wide-kvars
+
+pub functions-few : (file : List ℕ) (at end : ℕ) (fs : List FunDef) (q : ℕ) → at ≤ end → end ≤ length file → section function (take end file) at ≡ got fs q → 3 * length fs ≤ end - at
+functions-few = section-few (λ f. 3) (λ fs. 3 * length fs) (omega arith) (λ f fs. omega arith) function wide-functions
 
 -- ROOM
 

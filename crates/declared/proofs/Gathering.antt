@@ -1,12 +1,11 @@
 -- What the walk over a section adds up to.
 use mathlib.Core.Path.{_≡_, refl, ap, _∙_}
 use mathlib.Core.List.{List, [], _∷_}
-use Prim.Native.Nat.{ℕ, _+_, _-_, _≤_, _<_}
+use Prim.Native.Nat.{ℕ, _≤_, _<_}
 use native.Mathlib.Omega.{arith}
 use lib.ListN.{length, take, length-take}
-use Rattle.task.specs.Ast.{FunDef, KVarDecl}
 use Rattle.task.specs.Covers.{CoversSome}
-use Rattle.task.specs.Decode.{Res, got, bind, datatype, constant, function, kvar, section}
+use Rattle.task.specs.Decode.{Res, got, refuse, bind, Decoder, datatype, constant}
 use Rattle.task.specs.Run.{Runs}
 use Rattle.task.proofs.Reading.{bind-got}
 use Rattle.task.proofs.Running.{Steps}
@@ -17,10 +16,10 @@ use Rattle.item_check.specs.declared.Section.{Section}
 use Rattle.item_check.specs.declared.Section.the-variants.{Comments, Datatypes, Constants, Functions, KVars}
 use Rattle.trailer.specs.declared.Bounds.{Bounds}
 use Rattle.trailer.specs.Bounds.{Inside, startOf, endOf}
-use Rattle.names.specs.declared.Kind.the-variants.{KVar, Constant, Function}
-use Rattle.names.specs.Table.{Symbol, entries}
-use Rattle.declared.specs.Symbols.{alone, together, named, datatypeSymbols, functionSymbols, kvarSymbols}
-use Rattle.declared.specs.Gather.{adds, Ready, Collects, nameIn, itemSymbols, themselves, Gathers}
+use Rattle.names.specs.declared.Kind.the-variants.{Constant}
+use Rattle.names.specs.Table.{Symbol, entries, Chained}
+use Rattle.declared.specs.Symbols.{together, named, datatypeSymbols}
+use Rattle.declared.specs.Gather.{adds, Ready, Collects, itemSymbols, themselves, Sweeps, addsAll, Gathers}
 use Rattle.declared.proofs.Collecting.{adds-append, none-collects}
 
 -- AN ITEM
@@ -30,6 +29,7 @@ of-piece : {A : Type 0} (symbols : A → List Symbol) (d : Res A) (s t u : List 
 of-piece symbols d s t u r c =
     record {
       chained = c .chained;
+      kept = c .kept;
       words = c .words;
       runs = λ es p e.
           let i = bind-got d (λ a q. got (symbols a) q) es p e in
@@ -39,16 +39,22 @@ of-piece symbols d s t u r c =
           (y .0 ∙ z, y .1 ∙ ap (adds (length t) (entries s t)) w);
     }
 
--- those of a piece by its name
-of-name : {A : Type 0} (own : A → List ℕ) (symbols : List ℕ → List Symbol) (d : Res A) (s t u : List ℕ) (r : ℕ) → Collects symbols (bind d (λ a q. got (own a) q)) s t u r
-    → Collects (λ a. symbols (own a)) d s t u r
-of-name own symbols d s t u r c =
-    record { chained = c .chained; words = c .words; runs = λ a p e. c .runs (own a) p (ap (λ x. bind x (λ a q. got (own a) q)) e) }
-
 module _ (i : Section) (s t : List ℕ) (at : ℕ) where
+  -- an item of a section that has no symbols
+  none-of : (j : Section) → itemSymbols j s at ≡ refuse 2 → (r : ℕ) → i ≡ j → Ready s t → Collects themselves (itemSymbols i s at) s t t r
+  none-of j z r e c = none-collects themselves s t (c .chained) r (itemSymbols i s at) 2 (ap (λ (k : Section). itemSymbols k s at) e ∙ z)
+
   pub comments-none : (r : ℕ) → i ≡ Comments → Ready s t → Collects themselves (itemSymbols i s at) s t t r
   unfolding itemSymbols
-  comments-none r e c = rw e (none-collects themselves s t (c .chained) r (itemSymbols Comments s at) 2 refl)
+  comments-none = none-of Comments refl
+
+  pub functions-none : (r : ℕ) → i ≡ Functions → Ready s t → Collects themselves (itemSymbols i s at) s t t r
+  unfolding itemSymbols
+  functions-none = none-of Functions refl
+
+  pub kvars-none : (r : ℕ) → i ≡ KVars → Ready s t → Collects themselves (itemSymbols i s at) s t t r
+  unfolding itemSymbols
+  kvars-none = none-of KVars refl
 
   pub datatypes-item : (u : List ℕ) (r : ℕ) → i ≡ Datatypes → Collects datatypeSymbols (datatype s at) s t u r → Collects themselves (itemSymbols i s at) s t u r
   unfolding itemSymbols
@@ -58,16 +64,6 @@ module _ (i : Section) (s t : List ℕ) (at : ℕ) where
   unfolding itemSymbols
   constants-item u r e c = rw e (of-piece (named Constant) (constant s at) s t u r c)
 
-  pub functions-item : (u : List ℕ) (r : ℕ) → i ≡ Functions → Collects (alone Function) (nameIn i s at) s t u r → Collects themselves (itemSymbols i s at) s t u r
-  unfolding itemSymbols nameIn
-  functions-item u r e c =
-      rw e (of-piece functionSymbols (function s at) s t u r (of-name (λ (f : FunDef). f .name) (alone Function) (function s at) s t u r (rw e at c)))
-
-  pub kvars-item : (u : List ℕ) (r : ℕ) → i ≡ KVars → Collects (alone KVar) (nameIn i s at) s t u r → Collects themselves (itemSymbols i s at) s t u r
-  unfolding itemSymbols nameIn
-  kvars-item u r e c =
-      rw e (of-piece kvarSymbols (kvar s at) s t u r (of-name (λ (k : KVarDecl). k .kvid) (alone KVar) (kvar s at) s t u r (rw e at c)))
-
 -- A SECTION
 
 pub item-covers : (i : Section) → CoversSome (itemSymbols i)
@@ -75,60 +71,55 @@ unfolding itemSymbols
 item-covers Comments = covers-refusal (λ a. 1) 2
 item-covers Datatypes = covers-map datatype datatypeSymbols (each-covers .datatypes)
 item-covers Constants = covers-map constant (named Constant) (each-covers .constants)
-item-covers Functions = covers-map function functionSymbols (each-covers .functions)
-item-covers KVars = covers-map kvar kvarSymbols (each-covers .kvars)
+item-covers Functions = covers-refusal (λ a. 1) 2
+item-covers KVars = covers-refusal (λ a. 1) 2
 
-pub section-steps : (n : ℕ) → Steps [] _∷_ (λ (es : List Symbol) fs. adds n es fs) (λ es xs. adds n es (together xs))
+pub section-steps : (n : ℕ) → Steps [] _∷_ (adds n) (addsAll n)
 unfolding adds
 section-steps n = record { none = λ es. refl; step = λ es fs xs. adds-append n es fs (together xs) }
 
-module _ (file : List ℕ) (i : Section) (at end : ℕ) (t : List ℕ) where
+-- any items, by what a table holds and what each adds to it
+module _ {A W : Type 0} (held : List ℕ → W) {one : ℕ → W → A → W} {all : ℕ → W → List A → W} (steps : (n : ℕ) → Steps [] _∷_ (one n) (all n)) (d : Decoder A) (covers : CoversSome d)
+    (file : List ℕ) (at end : ℕ) (t : List ℕ) where
   -- the loop: the items from p on are left, and t has become u
   pub record Sweeping (u : List ℕ) (p : ℕ) : Type 0 where
     pub ready : Ready file u
     pub words : length u ≡ length t
-    pub over : Over (section-steps (length t)) (itemSymbols i) (item-covers i) (take end file) at (entries file t) p (entries file u)
+    pub over : Over (steps (length t)) d covers (take end file) at (held t) p (held u)
 
   pub sweep-start : Ready file t → Sweeping t at
-  sweep-start r = record { ready = r; words = refl; over = over-start (section-steps (length t)) (itemSymbols i) (item-covers i) (take end file) at (entries file t) }
+  sweep-start r = record { ready = r; words = refl; over = over-start (steps (length t)) d covers (take end file) at (held t) }
 
-  -- what an item added, by the words that the table had at first
-  ran : (u v : List ℕ) (p q : ℕ) → Sweeping u p → Collects themselves (itemSymbols i file p) file u v q
-      → Runs (λ es fs. adds (length t) es fs) (itemSymbols i (take end file) p) (entries file u) (entries file v) q
-  ran u v p q w c =
-      runs-whole (λ es fs. adds (length t) es fs) (itemSymbols i) (item-covers i) file end p (entries file u) (entries file v) q
-      (λ fs r e. let y = c .runs fs r e in (y .0, y .1 ∙ ap (λ (n : ℕ). adds n (entries file u) fs) (w .words)))
+  module _ (l : end ≤ length file) (u v : List ℕ) (p q : ℕ) (w : Sweeping u p) (h : p < end) (c : Chained file v) (e : length v ≡ length u) (r : Runs (one (length u)) (d file p) (held u) (held v) q) where
+    -- what the item added, by the words that the table had at first
+    ran : Runs (one (length t)) (d (take end file) p) (held u) (held v) q
+    ran = runs-whole (one (length t)) d covers file end p (held u) (held v) q (λ a z g. let y = r a z g in (y .0, y .1 ∙ ap (λ (n : ℕ). one n (held u) a) (w .words)))
 
-  module _ (l : end ≤ length file) (u v : List ℕ) (p q : ℕ) (w : Sweeping u p) where
-    pub sweep-more : p < end → Collects themselves (itemSymbols i file p) file u v q → p < q → Sweeping v q
-    sweep-more h c g =
+    pub sweep-more : p < q → Sweeping v q
+    sweep-more g =
         let k = length-take end file in
         record {
-          ready = record { chained = c .chained; short = w .ready .short };
-          words = c .words ∙ w .words;
-          over = over-more (section-steps (length t)) (itemSymbols i) (item-covers i) (take end file) at (entries file t) p (entries file u) (entries file v) q (omega arith) (w .over)
-              (ran u v p q w c) g;
+          ready = record { chained = c; short = w .ready .short };
+          words = e ∙ w .words;
+          over = over-more (steps (length t)) d covers (take end file) at (held t) p (held u) (held v) q (omega arith) (w .over) ran g;
         }
 
-    pub sweep-stuck : p < end → Collects themselves (itemSymbols i file p) file u v q → q ≤ p → Gathers file i at end t v
-    sweep-stuck h c g =
+    pub sweep-stuck : q ≤ p → Sweeps held all d file at end t v
+    sweep-stuck g =
         let k = length-take end file in
         record {
-          chained = c .chained;
-          words = c .words ∙ w .words;
-          are = λ xs r e.
-              over-stuck (section-steps (length t)) (itemSymbols i) (item-covers i) (take end file) at (entries file t) p (entries file u) (entries file v) (entries file v) q r (omega arith)
-              (w .over) (ran u v p q w c) g xs r e .1;
+          chained = c;
+          words = e ∙ w .words;
+          are = λ xs z g'. over-stuck (steps (length t)) d covers (take end file) at (held t) p (held u) (held v) (held v) q z (omega arith) (w .over) ran g xs z g' .1;
         }
 
-  pub sweep-end : end ≤ length file → (u : List ℕ) (p : ℕ) → Sweeping u p → end ≤ p → Gathers file i at end t u
+  pub sweep-end : end ≤ length file → (u : List ℕ) (p : ℕ) → Sweeping u p → end ≤ p → Sweeps held all d file at end t u
   sweep-end l u p w h =
       let k = length-take end file in
       record {
         chained = w .ready .chained;
         words = w .words;
-        are = λ xs r e.
-            over-end (section-steps (length t)) (itemSymbols i) (item-covers i) (take end file) at (entries file t) p (entries file u) (omega arith) (w .over) xs r e .1;
+        are = λ xs z g. over-end (steps (length t)) d covers (take end file) at (held t) p (held u) (omega arith) (w .over) xs z g .1;
       }
 
 -- a section of the file, where it begins and ends as the code has it

@@ -2,10 +2,11 @@
 use mathlib.Core.List.{List, [], _∷_, _++_, map}
 use Prim.Native.Nat.{ℕ}
 use mathlib.Core.Path.{_≡_}
+use mathlib.Core.Bool.{true, false, cond}
 use mathlib.Core.Option.{none}
-use Rattle.smtlib.specs.Lexicon.{bytes}
+use Rattle.smtlib.specs.Lexicon.{bytes, isOne}
 use Rattle.task.specs.Ast.{Sort, Sorts, Binder, Constraint, Constraints, DataCtor, DataDecl, FunDef, KVarDecl, Task}
-use Rattle.task.specs.Scope.{takenNames}
+use Rattle.task.specs.Scope as scope
 use Rattle.names.specs.declared.Kind.{Kind}
 use Rattle.names.specs.declared.Kind.the-variants.{Datatype, KVar, Constructor, Field, Constant, Function}
 use Rattle.names.specs.Table.{numberOf, Symbol, symbol, namesOf}
@@ -23,9 +24,13 @@ together (es ∷ rest) = es ++ together rest
 abbrev pub named : Kind → Binder → List Symbol
 named kind b = alone kind (b .name)
 
+-- pieces in a row, by the symbols of each
+abbrev pub rowSymbols : {A : Type 0} → (A → List Symbol) → List A → List Symbol
+rowSymbols symbols xs = together (map symbols xs)
+
 -- fields
 abbrev pub fieldSymbols : List Binder → List Symbol
-fieldSymbols fs = together (map (named Field) fs)
+fieldSymbols fs = rowSymbols (named Field) fs
 
 -- a constructor: its name, and its fields
 abbrev pub ctorSymbols : DataCtor → List Symbol
@@ -39,18 +44,22 @@ ctorsSymbols cs = together (map ctorSymbols cs)
 abbrev pub datatypeSymbols : DataDecl → List Symbol
 datatypeSymbols d = alone Datatype (d .name) ++ ctorsSymbols (d .ctors)
 
--- a function, and a KVar: its name
+-- a function: its name
 abbrev pub functionSymbols : FunDef → List Symbol
 functionSymbols f = alone Function (f .name)
 
-abbrev pub kvarSymbols : KVarDecl → List Symbol
-kvarSymbols k = alone KVar (k .kvid)
+-- datatypes and constants
+unfoldable pub dataSymbols : Task → List Symbol
+dataSymbols t = together (map datatypeSymbols (t .datatypes)) ++ together (map (named Constant) (t .constants))
+
+-- KVars, given the names of those before them: of two with one name the first
+unfoldable pub kvarsSymbols : List (List ℕ) → List KVarDecl → List Symbol
+kvarsSymbols seen [] = []
+kvarsSymbols seen (k ∷ ks) = cond (isOne (k .kvid) seen) (kvarsSymbols seen ks) (alone KVar (k .kvid) ++ kvarsSymbols (seen ++ (k .kvid ∷ [])) ks)
 
 -- a task: section by section
 unfoldable pub symbolsOf : Task → List Symbol
-symbolsOf t =
-    together (map datatypeSymbols (t .datatypes)) ++ (together (map (named Constant) (t .constants))
-    ++ (together (map functionSymbols (t .functions)) ++ together (map kvarSymbols (t .kvars))))
+symbolsOf t = dataSymbols t ++ (together (map functionSymbols (t .functions)) ++ kvarsSymbols [] (t .kvars))
 
 -- what a task declares that has one piece of each kind: a datatype d with a constructor c of a field f, a constant x, a function g and a KVar k
 abbrev pub sample : Task
@@ -69,6 +78,13 @@ SampleSymbols =
     symbolsOf sample
     ≡ symbol 0 (bytes "d") ∷ symbol 2 (bytes "c") ∷ symbol 3 (bytes "f") ∷ symbol 4 (bytes "x") ∷ symbol 5 (bytes "g") ∷ symbol 1 (bytes "k") ∷ []
 
--- Those of the kinds 1 to 5 are the names that no ForAll may have. (proofs/Ranges.antt: taken-are)
-abbrev pub TakenAre : Type 0
-TakenAre = (t : Task) → namesOf 1 5 (symbolsOf t) ≡ takenNames t
+-- Which names there are of the kinds of a range: among datatypes and constants, and in the whole task. Those of the kinds 1 to 5 are the names
+-- that no ForAll may have. (proofs/Ranges.antt: ranges)
+pub record Ranges : Type 0 where
+  pub everywhere : (t : Task) → namesOf 2 6 (dataSymbols t) ≡ scope.everywhere t
+  pub ctors-first : (t : Task) → namesOf 2 2 (dataSymbols t) ≡ scope.declaredBy true (t .datatypes)
+  pub no-kvars : (t : Task) → namesOf 1 1 (dataSymbols t) ≡ []
+  pub vars : (t : Task) → namesOf 2 6 (symbolsOf t) ≡ scope.inConstraint t
+  pub ctors : (t : Task) → namesOf 2 2 (symbolsOf t) ≡ scope.declaredBy true (t .datatypes)
+  pub datatypes : (t : Task) → namesOf 0 0 (symbolsOf t) ≡ scope.declaredBy false (t .datatypes)
+  pub taken : (t : Task) (x : List ℕ) → isOne x (namesOf 1 5 (symbolsOf t)) ≡ isOne x (scope.takenNames t)

@@ -7,7 +7,7 @@ use lib.Dec.{T, leb, eqb}
 use lib.ListN.{length, take, getD}
 use Rattle.smtlib.specs.Lexicon.{any}
 use Rattle.task.specs.declared.Fault.{Fault}
-use Rattle.task.specs.declared.Fault.the-variants.{Text, NoConstructors, BitVecWidth, Unqualified, WKVar, Arity, Shadowed, Clash, Sound}
+use Rattle.task.specs.declared.Fault.the-variants.{Text, NoConstructors, BitVecWidth, Unqualified, WKVar, Arity, Shadowed, Clash, Unknown, Arguments, Sound}
 use Rattle.task.specs.Ast.{Sorts, Exprs, Constraints}
 use Rattle.task.specs.Decode.{Res, got, refuse, bind, Decoder, give, refusal, _▹_, raw, number, many, counted, name, text, coded, flag, sortForms, decSort, binder, binOps, binRels, quantifiers, thyFuncs, given, exprForms, decExpr, decPred, decConstraint, deepest, datatype, body, function, kvar, items, section}
 use Rattle.task.specs.Fault.{refusalOf}
@@ -253,6 +253,8 @@ fault-numbered a p WKVar = refused tt
 fault-numbered a p Arity = refused tt
 fault-numbered a p Shadowed = refused tt
 fault-numbered a p Clash = refused tt
+fault-numbered a p Unknown = refused tt
+fault-numbered a p Arguments = refused tt
 fault-numbered a p Sound = fine
 
 pub refusals : (file : List ℕ) (n : ℕ) → taskOf file ≡ refuse n → T (any (eqb n) surveyNumbers)

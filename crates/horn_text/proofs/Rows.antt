@@ -10,10 +10,10 @@ use Rattle.smtlib.specs.Lexicon.{reservedWords}
 use Rattle.smtlib.specs.Compose.{decimal}
 use Rattle.smtlib.proofs.Bools.{and-left, and-right}
 use Rattle.task.specs.declared.Fault.{Fault}
-use Rattle.task.specs.declared.Fault.the-variants.{Text, NoConstructors, BitVecWidth, Unqualified, WKVar, Arity, Shadowed, Clash, Sound}
+use Rattle.task.specs.declared.Fault.the-variants.{Text, NoConstructors, BitVecWidth, Unqualified, WKVar, Arity, Shadowed, Clash, Unknown, Arguments, Sound}
 use Rattle.task.specs.Decode.{raw, items, sortForms, decSort, binRels, quantifiers, thyFuncs, exprForms, decExpr, decPred, decConstraint}
 use Rattle.task.specs.Fault.{lower, nameFault, textFault, sortFault, sortsFault, binderFault, needsSort, thyFuncFault, exprFault, exprsFault, predFault, shadowFault, constraintFault, constraintsFault, dataCtorFault, emptyFault, datatypeFault, arityFault, bodyFault, functionFault, kvarFault, taskFault}
-use Rattle.task.specs.Scope.{takenNames, clashFault, constraintScope, scopeFault}
+use Rattle.task.specs.Scope.{takenNames, everywhere, inConstraint, arityOf, knownFault, exprScope, bodyScope, functionsScope, globalsOf, predScope, constraintNames, namesFault}
 use Rattle.task.specs.Task.{bound, framed, decoded, firstFault, judged, taskOf, literallyTrue}
 use Rattle.task.specs.Returns.{every}
 use Rattle.smt_text.specs.Text.{write-name, write-string, write-sort, write-binder, write-expr, write-pred, write-ctor, write-datatype-decl, write-const-decl, write-kvar-decl}
@@ -24,7 +24,7 @@ use Rattle.horn_text.specs.Table.{caseS, Table}
 use Rattle.horn_text.specs.Numbers.{placeOf, Numbers}
 
 pub table : Table
-unfolding caseS surveyAnswer partAnswer partBuffer scriptAnswer scriptBuffer taskOf framed bound decoded judged raw items sortForms decSort binRels exprForms decExpr decPred decConstraint lower nameFault textFault sortFault binderFault exprFault predFault shadowFault constraintFault dataCtorFault emptyFault datatypeFault kvarFault taskFault takenNames clashFault constraintScope scopeFault firstFault reservedWords literallyTrue flatten-constraint decimal write-name write-string write-sort write-binder write-expr write-pred write-ctor write-datatype-decl write-const-decl write-kvar-decl write-implication write-assert opening closing
+unfolding caseS surveyAnswer partAnswer partBuffer scriptAnswer scriptBuffer taskOf framed bound decoded judged raw items sortForms decSort binRels exprForms decExpr decPred decConstraint lower nameFault textFault sortFault binderFault exprFault predFault shadowFault constraintFault dataCtorFault emptyFault datatypeFault kvarFault taskFault takenNames everywhere inConstraint arityOf knownFault exprScope bodyScope functionsScope globalsOf predScope constraintNames namesFault firstFault reservedWords literallyTrue flatten-constraint decimal write-name write-string write-sort write-binder write-expr write-pred write-ctor write-datatype-decl write-const-decl write-kvar-decl write-implication write-assert opening closing
 table = record {
   s-length = refl;
   s-survey = refl;
@@ -51,7 +51,7 @@ table = record {
 -- THE ORDER OF FAULTS
 
 abbrev faults : List Fault
-faults = Text ∷ NoConstructors ∷ BitVecWidth ∷ Unqualified ∷ WKVar ∷ Arity ∷ Shadowed ∷ Clash ∷ Sound ∷ []
+faults = Text ∷ NoConstructors ∷ BitVecWidth ∷ Unqualified ∷ WKVar ∷ Arity ∷ Shadowed ∷ Clash ∷ Unknown ∷ Arguments ∷ Sound ∷ []
 
 -- what holds of all that are listed holds of the i-th
 listed-holds : {A : Type 0} (p : A → Bool) (d : A) (l : List A) → T (every p l) → (i : ℕ) → i < length l → T (p (getD l i d))
@@ -69,7 +69,9 @@ each-holds p h WKVar = listed-holds p Sound faults h 4 (lit< tt)
 each-holds p h Arity = listed-holds p Sound faults h 5 (lit< tt)
 each-holds p h Shadowed = listed-holds p Sound faults h 6 (lit< tt)
 each-holds p h Clash = listed-holds p Sound faults h 7 (lit< tt)
-each-holds p h Sound = listed-holds p Sound faults h 8 (lit< tt)
+each-holds p h Unknown = listed-holds p Sound faults h 8 (lit< tt)
+each-holds p h Arguments = listed-holds p Sound faults h 9 (lit< tt)
+each-holds p h Sound = listed-holds p Sound faults h 10 (lit< tt)
 
 abbrev inOrder : Fault → Fault → Bool
 inOrder f g = eqb (placeOf (lower f g)) (min (placeOf f) (placeOf g))
@@ -83,14 +85,16 @@ in-order : (f g : Fault) → placeOf (lower f g) ≡ min (placeOf f) (placeOf g)
 in-order f g = eqb→eq _ _ (each-holds (inOrder f) (each-holds (λ h. every (inOrder h) faults) all-in-order f) g)
 
 pub numbers : Numbers
-unfolding surveyAnswer partAnswer partBuffer scriptAnswer scriptBuffer taskOf framed bound decoded judged raw items sortForms decSort binRels quantifiers exprForms decExpr decPred decConstraint lower nameFault sortFault binderFault exprFault predFault shadowFault constraintFault dataCtorFault emptyFault datatypeFault kvarFault taskFault takenNames clashFault constraintScope scopeFault firstFault reservedWords literallyTrue flatten-constraint decimal write-name write-sort write-binder write-expr write-pred write-ctor write-datatype-decl write-const-decl write-kvar-decl write-implication write-assert opening closing thyFuncs textFault sortsFault needsSort thyFuncFault exprsFault arityFault bodyFault functionFault constraintsFault
+unfolding surveyAnswer partAnswer partBuffer scriptAnswer scriptBuffer taskOf framed bound decoded judged raw items sortForms decSort binRels quantifiers exprForms decExpr decPred decConstraint lower nameFault sortFault binderFault exprFault predFault shadowFault constraintFault dataCtorFault emptyFault datatypeFault kvarFault taskFault takenNames everywhere inConstraint arityOf knownFault exprScope bodyScope functionsScope globalsOf predScope constraintNames namesFault firstFault reservedWords literallyTrue flatten-constraint decimal write-name write-sort write-binder write-expr write-pred write-ctor write-datatype-decl write-const-decl write-kvar-decl write-implication write-assert opening closing thyFuncs textFault sortsFault needsSort thyFuncFault exprsFault arityFault bodyFault functionFault constraintsFault
 numbers = record {
   survey = refl;
   listed = refl;
   forms = refl;
   texts = refl;
   clashes = refl;
+  unknowns = refl;
   fine = tt;
+  known = tt;
   order = in-order;
   no-part = refl;
   part-short = refl;

@@ -19,7 +19,7 @@ pub data Answer : Type 0 where
 
 -- the numbers that survey can answer, in the order of judging; of those that share a place the first met counts
 abbrev pub surveyPlaces : List (List ℕ)
-surveyPlaces = (1 ∷ []) ∷ (2 ∷ 3 ∷ []) ∷ (4 ∷ []) ∷ (5 ∷ []) ∷ (12 ∷ []) ∷ (13 ∷ []) ∷ (14 ∷ []) ∷ (6 ∷ []) ∷ (7 ∷ []) ∷ (15 ∷ []) ∷ []
+surveyPlaces = (1 ∷ []) ∷ (2 ∷ 3 ∷ []) ∷ (4 ∷ []) ∷ (5 ∷ []) ∷ (12 ∷ []) ∷ (13 ∷ []) ∷ (14 ∷ []) ∷ (6 ∷ []) ∷ (7 ∷ []) ∷ (15 ∷ []) ∷ (10 ∷ []) ∷ (11 ∷ []) ∷ []
 
 -- the same as one list
 abbrev pub surveyNumbers : List ℕ

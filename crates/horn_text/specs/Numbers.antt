@@ -6,7 +6,7 @@ use Prim.Native.String.{String}
 use mathlib.Core.Bool.{Bool, true, false, cond}
 use mathlib.Core.List.{List, [], _∷_, _++_, map}
 use lib.Dec.{T, eqb}
-use lib.ListN.{replicate}
+use lib.ListN.{length, replicate}
 use Rattle.smtlib.specs.Lexicon.{bytes, any}
 use Rattle.task.specs.declared.Fault.{Fault}
 use Rattle.task.specs.Fault.{refusalOf, lower}
@@ -86,6 +86,10 @@ identity f x = named f ++ 0 ∷ 0 ∷ 1 ∷ 0 ∷ 0 ∷ 0 ∷ 1 ∷ 1 ∷ 0 ∷ 
 abbrev pub kvarOf : String → List ℕ
 kvarOf k = named k ++ 0 ∷ 0 ∷ []
 
+-- a KVar with these arguments, behind their number, as a head
+abbrev pub kvarHead : String → List ℕ → List ℕ
+kvarHead k es = 0 ∷ 0 ∷ named k ++ cond (eqb (length es) 0) (0 ∷ 0 ∷ []) (1 ∷ 0 ∷ es)
+
 -- ForAll x Int over this expression as its head
 abbrev pub underX : List ℕ → List ℕ
 underX e = forAllX (head (exprPred e))
@@ -101,7 +105,8 @@ Get rows = map (λ r. surveyAnswer (r .1)) rows ≡ map (λ r. refused (r .0)) r
 -- A file for each number that survey can answer. 1: 27 zero bytes. 2: 24 zero bytes and the mark. 3: an expression head of 254 Nots, whose last
 -- operand is due at level 257. 4: a comment with a line feed. 5: a datatype without constructors. 12: a BitVec of Int. 13: a bare SetEmpty as a
 -- head. 14: a WKVar as a head. 6: a body with an argument too many. 7: a ForAll named like the one around it. 15: the merge task of W-207, with the
--- constant lim, a guard that speaks of it, and a ForAll lim below.
+-- constant lim, a guard that speaks of it, and a ForAll lim below. 10: a Var that nothing declares as a head. 11: a KVar of one sort as a head without
+-- arguments.
 abbrev pub refusedFiles : List Row
 refusedFiles =
     (1, zeros 27) ∷
@@ -115,6 +120,8 @@ refusedFiles =
     (6, fileWith [] [] [] oneArgument [] nothing) ∷
     (7, constraintOnly (forAllX (forAllX nothing))) ∷
     (15, fileOf [] limit merge) ∷
+    (10, headOf (var "a")) ∷
+    (11, fileWith [] [] [] [] (named "k" ++ 1 ∷ 0 ∷ 0 ∷ []) (kvarHead "k" [])) ∷
     []
 
 -- Further files of forms that have no text (W-206). 12: a BvSize that is no BitVec's, a BitVec of a BitVec, and three that are never written: a BvSize
@@ -165,6 +172,31 @@ fineFiles =
     constraintOnly (underX (20 ∷ 1 ∷ 1 ∷ 0 ∷ named "x" ++ 0 ∷ var "x")) ∷
     []
 
+-- Further files with a name that is not known (W-201): a Let's own name in its first operand; a function that calls itself; an argument in the constraint; a
+-- Quantifier's name behind it; IsCtor of a field's name; a KVar and a datatype as a Var; an undeclared KVar, also with a wrong number of arguments elsewhere.
+-- And of two KVars with one name the first counts.
+abbrev pub unknownFiles : List Row
+unknownFiles =
+    (10, headOf (16 ∷ named "a" ++ var "a" ++ 1 ∷ 1 ∷ [])) ∷
+    (10, fileWith [] [] [] (named "f" ++ 0 ∷ 0 ∷ 0 ∷ 0 ∷ 0 ∷ 1 ∷ 0 ∷ 0 ∷ var "f") [] nothing) ∷
+    (10, fileWith [] [] [] (identity "f" "a") [] (head (exprPred (var "a")))) ∷
+    (10, headOf (13 ∷ 2 ∷ 0 ∷ 20 ∷ 0 ∷ 1 ∷ 0 ∷ named "a" ++ 0 ∷ var "a" ++ var "a")) ∷
+    (10, fileOf (datatypeOf "d" "c" "f") [] (head (exprPred (19 ∷ named "f" ++ var "c")))) ∷
+    (10, fileWith [] [] [] [] (kvarOf "k") (head (exprPred (var "k")))) ∷
+    (10, fileOf (datatypeOf "d" "c" "f") [] (head (exprPred (var "d")))) ∷
+    (10, fileWith [] [] [] [] (named "k" ++ 1 ∷ 0 ∷ 0 ∷ []) (1 ∷ 2 ∷ 0 ∷ kvarHead "k" [] ++ kvarHead "l" [])) ∷
+    (11, fileWith [] [] [] [] (kvarOf "k" ++ named "k" ++ 1 ∷ 0 ∷ 0 ∷ []) (kvarHead "k" (1 ∷ 1 ∷ []))) ∷
+    []
+
+-- and files in which each name is known
+abbrev pub knownFiles : List (List ℕ)
+knownFiles =
+    headOf (16 ∷ named "a" ++ 1 ∷ 1 ∷ var "a") ∷
+    fileWith [] [] [] (identity "f" "a" ++ named "g" ++ 0 ∷ 0 ∷ 0 ∷ 0 ∷ 0 ∷ 1 ∷ 0 ∷ 0 ∷ var "f") [] (head (exprPred (17 ∷ 0 ∷ var "g" ++ 0 ∷ 0 ∷ []))) ∷
+    fileOf (datatypeOf "d" "c" "f") [] (head (exprPred (19 ∷ named "c" ++ var "f"))) ∷
+    fileWith [] [] [] [] (kvarOf "k" ++ named "k" ++ 1 ∷ 0 ∷ 0 ∷ []) (kvarHead "k" []) ∷
+    []
+
 -- survey answers with values
 abbrev pub accepts : Answer → Bool
 accepts (values vs) = true
@@ -192,8 +224,10 @@ pub record Numbers : Type 0 where
   pub forms : Get formFiles
   pub texts : Get textFiles
   pub clashes : Get clashFiles
+  pub unknowns : Get unknownFiles
   -- and these get none
   pub fine : T (every (λ f. accepts (surveyAnswer f)) fineFiles)
+  pub known : T (every (λ f. accepts (surveyAnswer f)) knownFiles)
   -- the faults are judged in the order of the list: of two the one whose number has the place further in front
   pub order : (f g : Fault) → placeOf (lower f g) ≡ min (placeOf f) (placeOf g)
   -- there is no part 3 of the smallest file

@@ -86,6 +86,11 @@ trueHead = head (exprPred (1 ∷ 1 ∷ []))
 abbrev pub kUnder : List (List ℕ) → List ℕ
 kUnder guards = 2 ∷ named "x" ++ 0 ∷ length guards ∷ 0 ∷ join guards ++ head kOfX
 
+-- A file with the constants p and q of sort Bool and the KVar k of one Int (W-201: names must be known). Its parts are 0 the opening, 1 and 2 the constants, 3 the
+-- KVar, 4 the blank line, the assertions from 5 on, and the closing.
+abbrev pub closed : List ℕ → List ℕ
+closed constraint = fileWith [] [] (named "p" ++ 1 ∷ named "q" ++ 1 ∷ []) [] (named "k" ++ 1 ∷ 0 ∷ 0 ∷ []) constraint
+
 -- the datatype N with `vars` 1 and the constructor c, whose field f is of sort Var 0
 abbrev pub datatypeN : List ℕ
 datatypeN = named "N" ++ 1 ∷ 0 ∷ 1 ∷ 0 ∷ named "c" ++ 1 ∷ 0 ∷ named "f" ++ 6 ∷ 0 ∷ 0 ∷ []
@@ -140,19 +145,19 @@ pub record Table : Type 0 where
   pub empty-or : partCall (constraintOnly (head (exprPred (14 ∷ 0 ∷ 0 ∷ [])))) 2 (zeros 32)
       ≡ (values (32 ∷ []), line (bytes "(assert (=> (not false) false))"))
   -- an expression head without guards
-  pub unguarded : partCall (constraintOnly (head (exprPred (var "p")))) 2 (zeros 28)
+  pub unguarded : partCall (closed (head (exprPred (var "p")))) 5 (zeros 28)
       ≡ (values (28 ∷ []), line (bytes "(assert (=> (not p) false))"))
   -- W-203: a string with a quotation mark, as such a head
   pub quoted : partCall (constraintOnly (head (exprPred (string "a\"b")))) 2 (zeros 33)
       ≡ (values (33 ∷ []), line (bytes "(assert (=> (not \"a\"\"b\") false))"))
   -- a KVar head without guards
-  pub guards-0 : partCall (constraintOnly (kUnder [])) 2 (zeros 44)
+  pub guards-0 : partCall (closed (kUnder [])) 5 (zeros 44)
       ≡ (values (44 ∷ []), line (bytes "(assert (forall ((x Int)) (=> true (k x))))"))
   -- a KVar head with one guard
-  pub guards-1 : partCall (constraintOnly (kUnder (exprPred (var "p") ∷ []))) 2 (zeros 41)
+  pub guards-1 : partCall (closed (kUnder (exprPred (var "p") ∷ []))) 5 (zeros 41)
       ≡ (values (41 ∷ []), line (bytes "(assert (forall ((x Int)) (=> p (k x))))"))
   -- a KVar head with two guards
-  pub guards-2 : partCall (constraintOnly (kUnder (exprPred (var "p") ∷ exprPred (var "q") ∷ []))) 2 (zeros 49)
+  pub guards-2 : partCall (closed (kUnder (exprPred (var "p") ∷ exprPred (var "q") ∷ []))) 5 (zeros 49)
       ≡ (values (49 ∷ []), line (bytes "(assert (forall ((x Int)) (=> (and p q) (k x))))"))
   -- the `par` datatype
   pub par : partCall (fileOf datatypeN [] trueHead) 1 (zeros 54)

@@ -40,6 +40,8 @@ fn refusal_of(f: Fault) -> u8
         Fault::Arity => 6,
         Fault::Shadowed => 7,
         Fault::Clash => 15,
+        Fault::Unknown => 10,
+        Fault::Arguments => 11,
         Fault::Sound => 0,
     }
 }
@@ -175,8 +177,8 @@ fn check_pieces(file: &[u8]) -> Inspected
 }
 
 // The sections of the task that a file holds, the number of its declarations (datatypes, constants, functions and KVars) and of its heads
-// that are not literally true; or the number of the refusal. The names that the task declares are put into an empty table, and the names of
-// its ForAlls are judged by them.
+// that are not literally true; or the number of the refusal. The names that the task declares are put into an empty table, and all names are
+// judged by them.
 pub fn inspect(file: &[u8], table: &mut [u16]) -> Inspected
     requires { ⌜ Room (now file) (now table) ⌝ }
     ensures { λ r. ⌜ (r ≡ inspectedOf (now (file .entry)) (taskOf (now (file .entry)))) × Names (now (file .entry)) (now (table .exit)) ⌝ }
@@ -185,11 +187,6 @@ pub fn inspect(file: &[u8], table: &mut [u16]) -> Inspected
     let Inspected::Task(b, declarations, heads) = sound else {
         return sound;
     };
-    declared::declare(file, b, table);
-    let walked = scope::check_scope(file, b.constraint, 256, table);
-    let Walked::Next(_, fault) = walked else {
-        // the constraint was read before
-        return sound;
-    };
+    let fault = scope::check_names(file, b, table);
     judge(b, declarations, heads, fault)
 }

@@ -14,7 +14,7 @@ use Rattle.smtlib.proofs.Bools.{true-holds, and-right, same→eq}
 use Rattle.names.specs.declared.Found.{Found}
 use Rattle.names.specs.declared.Found.the-variants.{Entry, Nothing}
 use Rattle.names.specs.Table.{nameAt, Named, hasName, hashOf, countOf, headOf, nextOf, offsetOf, kindOf, Symbol, symbol, symbolOf, firstEntries, entries, lastOf, fits, inBucket, link, Chains, Chained, roomFor, add}
-use Rattle.names.specs.Change.{Pushed, Popped}
+use Rattle.names.specs.Change.{Kept, Pushed, Popped}
 use Rattle.names.proofs.Bytes.{name-named, room-there}
 use Rattle.names.proofs.Lasts.{Last, last-is, last-entries, last-entry, last-nothing, entries-length, entries-zero, entries-suc, link-below}
 
@@ -343,14 +343,20 @@ placed s t n h o d c r e =
           ap (firstEntries s u) (x .count)
           ∙ longer s t u n h o d b (r .3) (e .0) (e .1) x
           ∙ sym (added s t n o (symbol d (nameAt s o)) (c .1) r);
+      kept = record { more = let k = x .count in let m = c .1 in omega arith; places = λ k g. x .keeps (1026 + 3 * k + 1) (omega arith) (let m = c .1 in omega arith) };
+      place = λ g. ap (λ (k : ℕ). offsetOf u k) (sym (c .1)) ∙ x .offset;
       words = x .size;
       options = x .options;
     }
 
+-- nothing goes
+pub kept-all : (t : List ℕ) → Kept t t
+kept-all t = record { more = omega arith; places = λ k g. refl }
+
 -- nothing was placed: there is no name, or no room
 module _ (s t : List ℕ) (o d : ℕ) (c : Chained s t) where
   unchanged : entries s t ≡ cond (hasName s o) (add (length t) (entries s t) (symbol d (nameAt s o))) (entries s t) → Pushed s t o d t
-  unchanged e = record { chained = c; are = e; words = refl; options = refl }
+  unchanged e = record { chained = c; are = e; kept = kept-all t; place = λ g. absurd (omega arith); words = refl; options = refl }
 
   pub push-unnamed : (r : Bool) → r ≡ hasName s o → r ≡ false → Pushed s t o d t
   push-unnamed r e f = unchanged (rw (← e, f))
@@ -431,7 +437,7 @@ module _ (s t : List ℕ) (m h : ℕ) (c : Chains s t (suc m)) (count : countOf 
         nexts = λ k g. kept-nexts s t v m (suc m) k c (omega arith) pop-below g;
       }
 
-  popped : Popped s t v
+  popped : Popped s t 1 v
   popped =
       let a : length (entries s t) ≡ suc m = entries-length s t (countOf t) ∙ count in
       let b : length (entries s t) - 1 ≡ m = omega arith in
@@ -443,23 +449,24 @@ module _ (s t : List ℕ) (m h : ℕ) (c : Chains s t (suc m)) (count : countOf 
             ∙ sym (take-at (firstEntries s t m) (symbolOf s t m ∷ []) m (entries-length s t m))
             ∙ ap (take m) (sym (entries-suc s t m) ∙ ap (firstEntries s t) (sym count))
             ∙ ap (λ (k : ℕ). take k (entries s t)) (sym b);
+        kept = record { more = let k = popped-count in omega arith; places = λ k g. sym (pop-keeps (1026 + 3 * k + 1) (omega arith) (let m = popped-count in omega arith)) };
         words = sizes .1;
         options = left-as 0 (λ z. omega arith) (λ z. omega arith);
       }
 
 pub pop-pops : (s t : List ℕ) (n h o : ℕ) → Chained s t → n ≡ countOf t → (n ≡ 0 → ⊥) → o ≡ getD t (1026 + 3 * (n - 1) + 1) 0 → (h ≡ hashOf (nameAt s o)) × (h < 1024)
-    → Popped s t (set (set t (2 + h) (getD t (1026 + 3 * (n - 1)) 0)) 1 (n - 1))
+    → Popped s t 1 (set (set t (2 + h) (getD t (1026 + 3 * (n - 1)) 0)) 1 (n - 1))
 unfolding v v1
 pop-pops s t n h o c z l w e =
     let y : countOf t ≡ suc (n - 1) = omega arith in
     popped s t (n - 1) h (subst (λ (k : ℕ). Chains s t k) y c) y (e .0 ∙ ap (λ (x : ℕ). hashOf (nameAt s x)) w) (e .1)
 
 -- no entry goes
-pub pop-none : (s t : List ℕ) (n : ℕ) → Chained s t → n ≡ countOf t → n ≡ 0 → Popped s t t
+pub pop-none : (s t : List ℕ) (n : ℕ) → Chained s t → n ≡ countOf t → n ≡ 0 → Popped s t 1 t
 pop-none s t n c z y =
     let a : countOf t ≡ 0 = sym z ∙ y in
     let b : entries s t ≡ [] = ap (firstEntries s t) a ∙ entries-zero s t in
-    record { chained = c; are = rw b refl; words = refl; options = refl }
+    record { chained = c; are = rw b refl; kept = kept-all t; words = refl; options = refl }
 
 -- the last entry's name stands in the file
 pub last-named : (s t : List ℕ) (n o : ℕ) → Chained s t → n ≡ countOf t → (n ≡ 0 → ⊥) → o ≡ getD t (1026 + 3 * (n - 1) + 1) 0 → Named s o

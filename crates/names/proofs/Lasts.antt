@@ -28,7 +28,7 @@ choose true b k i f = refl
 choose false b k i f = refl
 
 -- one symbol more at the end of a list
-snoc-from : (p : Symbol → Bool) (i : ℕ) (es : List Symbol) (e : Symbol) → lastFrom p i (es ++ (e ∷ [])) ≡ cond (p e) (Entry (i + length es)) (lastFrom p i es)
+pub snoc-from : (p : Symbol → Bool) (i : ℕ) (es : List Symbol) (e : Symbol) → lastFrom p i (es ++ (e ∷ [])) ≡ cond (p e) (Entry (i + length es)) (lastFrom p i es)
 unfolding lastFrom
 snoc-from p i [] e =
     let z : i + 0 ≡ i = omega arith in

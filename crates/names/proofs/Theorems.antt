@@ -6,16 +6,17 @@ use Prim.Native.Nat.{ℕ, suc, _+_, _-_, _≤_, _<_}
 use native.Mathlib.Omega.{arith}
 use lib.Dec.{leb}
 use lib.ListN.{length, take, replicate, length-append, length-replicate, getD-replicate}
-use lib.Seq.{take-at}
+use lib.Seq.{take-at, take-all, take-take, length-take-le}
 use borrow.Author.Tests.{le-leb, leb-true}
 use Rattle.smtlib.specs.Lexicon.{same, isOne}
 use Rattle.smtlib.proofs.Bools.{true-holds, is-true, and-left, and-right, same-self, same→eq}
 use Rattle.names.specs.declared.Found.{Found}
 use Rattle.names.specs.declared.Found.the-variants.{Entry, Nothing}
 use Rattle.names.specs.Table.{nameAt, hasName, countOf, Symbol, symbol, symbolOf, firstEntries, entries, orElse, lastFrom, inRange, fits, namesOf, inBucket, link, Chained, roomFor, add}
-use Rattle.names.specs.Change.{Blank, Pushed, Popped}
+use Rattle.names.specs.Change.{Blank, Kept, Pushed, Popped, Restored}
 use Rattle.names.specs.Theorems.{Fits, Searches, Ranges, isFound, Members, Changes}
-use Rattle.names.proofs.Lasts.{last-is, last-entry, none-passes, none-above, nothing-last, entries-zero, empty-last}
+use Rattle.names.proofs.Lasts.{last-is, last-entry, none-passes, none-above, nothing-last, entries-length, entries-zero, empty-last}
+use Rattle.names.proofs.Chains.{kept-all}
 
 -- SEARCHES
 
@@ -122,14 +123,81 @@ blank-chained s t b =
 pub blank-entries : (s t : List ℕ) → Blank t → entries s t ≡ []
 blank-entries s t b = ap (firstEntries s t) (b .count) ∙ entries-zero s t
 
+-- entries that are there, behind others
+pub kept-both : (t u v : List ℕ) → Kept t u → Kept u v → Kept t v
+kept-both t u v a b =
+    let m = a .more in
+    let n = b .more in
+    record { more = omega arith; places = λ k g. b .places k (omega arith) ∙ a .places k g }
+
+pub restored-all : (s t : List ℕ) → Chained s t → Restored s t t
+restored-all s t c = record { chained = c; are = refl; kept = kept-all t; words = refl }
+
+pub restored-both : (s t u v : List ℕ) → Restored s t u → Restored s u v → Restored s t v
+restored-both s t u v a b =
+    record { chained = b .chained; are = b .are ∙ a .are; kept = kept-both t u v (a .kept) (b .kept); words = b .words ∙ a .words }
+
+-- the number of entries
+pub count-is : (s t u : List ℕ) → entries s t ≡ entries s u → countOf t ≡ countOf u
+count-is s t u e = sym (entries-length s t (countOf t)) ∙ ap length e ∙ entries-length s u (countOf u)
+
+-- n entries more, what leaves the entries alone, and n entries less
+pub scope-ends : (s t u v w : List ℕ) (fs : List Symbol) (n : ℕ) → entries s u ≡ entries s t ++ fs → length fs ≡ n → Kept t u → length u ≡ length t
+    → Restored s u v → Popped s v n w → Restored s t w
+scope-ends s t u v w fs n e l k a r p =
+    let y : entries s v ≡ entries s t ++ fs = r .are ∙ e in
+    let m = length-append (entries s t) fs in
+    let z : length (entries s v) ≡ length (entries s t ++ fs) = ap length y in
+    let q : entries s w ≡ entries s t =
+    p .are ∙ ap (take (length (entries s v) - n)) y ∙ take-at (entries s t) fs (length (entries s v) - n) (omega arith) in
+    let c : countOf w ≡ countOf t = count-is s w t q in
+    let i = k .more in
+    record {
+      chained = p .chained;
+      are = q;
+      kept = record { more = omega arith; places = λ j g. sym (p .kept .places j (omega arith)) ∙ r .kept .places j (omega arith) ∙ k .places j g };
+      words = p .words ∙ r .words ∙ a;
+    }
+
 pushed-popped : (s t : List ℕ) (o d : ℕ) (u v w : List ℕ) → hasName s o ≡ true → roomFor (length t) (length (entries s t)) ≡ true → Pushed s t o d u
-    → entries s v ≡ entries s u → Popped s v w → entries s w ≡ entries s t
+    → Restored s u v → Popped s v 1 w → Restored s t w
 unfolding add
 pushed-popped s t o d u v w h r g e p =
-    let y : entries s v ≡ entries s t ++ (symbol d (nameAt s o) ∷ []) = e ∙ g .are ∙ rw (h, r) in
-    let k = length-append (entries s t) (symbol d (nameAt s o) ∷ []) in
-    p .are ∙ ap (λ (es : List Symbol). take (length es - 1) es) y
-    ∙ take-at (entries s t) (symbol d (nameAt s o) ∷ []) (length (entries s t ++ (symbol d (nameAt s o) ∷ [])) - 1) (omega arith)
+    scope-ends s t u v w (symbol d (nameAt s o) ∷ []) 1 (g .are ∙ rw (h, r)) refl (g .kept) (g .words) e p
+
+-- entries that go one after another
+pub popped-none : (s t : List ℕ) → Chained s t → Popped s t 0 t
+popped-none s t c = record { chained = c; are = sym (take-all (length (entries s t) - 0) (entries s t) (omega arith)); kept = kept-all t; words = refl; options = refl }
+
+take-less : (es : List Symbol) (m : ℕ) → take (length (take (length es - m) es) - 1) (take (length es - m) es) ≡ take (length es - suc m) es
+take-less es m =
+    let k = length-take-le (length es - m) es (omega arith) in
+    take-take (length (take (length es - m) es) - 1) (length es - m) es (omega arith)
+    ∙ ap (λ (j : ℕ). take j es) (let z : length (take (length es - m) es) - 1 ≡ length es - suc m = omega arith in z)
+
+pub popped-more : (s t u v : List ℕ) (m : ℕ) → Popped s t m u → Popped s u 1 v → Popped s t (suc m) v
+popped-more s t u v m a b =
+    record {
+      chained = b .chained;
+      are = b .are ∙ ap (λ (es : List Symbol). take (length es - 1) es) (a .are) ∙ take-less (entries s t) m;
+      kept = kept-both v u t (b .kept) (a .kept);
+      words = b .words ∙ a .words;
+      options = b .options ∙ a .options;
+    }
+
+-- the loop: of n entries as many are left
+module _ (s t : List ℕ) (n : ℕ) where
+  pub popping-start : Chained s t → (n ≤ n) × Popped s t (n - n) t
+  popping-start c = let z : n - n ≡ 0 = omega arith in (omega arith, rw z (popped-none s t c))
+
+  pub popping-more : (u v : List ℕ) (left : ℕ) → (left ≤ n) × Popped s t (n - left) u → 0 < left → Popped s u 1 v → (left - 1 ≤ n) × Popped s t (n - (left - 1)) v
+  popping-more u v left p h q =
+      let l = p .0 in
+      let z : n - (left - 1) ≡ suc (n - left) = omega arith in
+      (omega arith, rw z (popped-more s t u v (n - left) (p .1) q))
+
+  pub popping-end : (u : List ℕ) (left : ℕ) → (left ≤ n) × Popped s t (n - left) u → left ≤ 0 → Popped s t n u
+  popping-end u left p h = let z : n - left ≡ n = omega arith in rw z at (p .1)
 
 pub changes : Changes
 changes = record { zeros = zeros-blank; blank = blank-chained; none = blank-entries; push-pop = pushed-popped }

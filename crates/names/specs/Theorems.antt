@@ -8,7 +8,7 @@ use Rattle.smtlib.specs.Lexicon.{isOne}
 use Rattle.names.specs.declared.Found.{Found}
 use Rattle.names.specs.declared.Found.the-variants.{Entry, Nothing}
 use Rattle.names.specs.Table.{hasName, Symbol, symbol, symbolOf, entries, countOf, lastOf, fits, namesOf, Chained, roomFor}
-use Rattle.names.specs.Change.{Blank, Pushed, Popped}
+use Rattle.names.specs.Change.{Blank, Pushed, Popped, Restored}
 
 -- a symbol has the name, and a kind in the range
 pub record Fits (name : List ℕ) (lowest highest : ℕ) (e : Symbol) : Type 0 where
@@ -46,10 +46,11 @@ isFound Nothing = false
 abbrev pub Members : Type 0
 Members = (name : List ℕ) (lowest highest : ℕ) (es : List Symbol) → isFound (lastOf (fits name lowest highest) es) ≡ isOne name (namesOf lowest highest es)
 
--- Zeros are a blank table. A blank table can be searched and has no entries. A push, what leaves the entries alone, and a pop give back the same entries. (changes)
+-- Zeros are a blank table. A blank table can be searched and has no entries. A push, what leaves the entries alone, and a pop leave the entries
+-- alone. (changes)
 pub record Changes : Type 0 where
   pub zeros : (n : ℕ) → 1026 ≤ n → Blank (replicate n 0)
   pub blank : (s t : List ℕ) → Blank t → Chained s t
   pub none : (s t : List ℕ) → Blank t → entries s t ≡ []
   pub push-pop : (s t : List ℕ) (offset kind : ℕ) (u v w : List ℕ) → hasName s offset ≡ true → roomFor (length t) (length (entries s t)) ≡ true → Pushed s t offset kind u
-      → entries s v ≡ entries s u → Popped s v w → entries s w ≡ entries s t
+      → Restored s u v → Popped s v 1 w → Restored s t w

@@ -5,7 +5,7 @@ ghost use mathlib.Core.Path.{_≡_};
 ghost use Prim.Native.Nat.{_+_, _*_, _≤_, _<_};
 ghost use lib.ListN.{length, getD};
 ghost use Rattle.smtlib.specs.Lexicon.{same};
-ghost use Rattle.names.specs.Table.{numberOf, nameAt, hasName, Named, hashOf, countOf, symbolOf, entries, fits, lastOf, roomFor, Chained};
+ghost use Rattle.names.specs.Table.{numberOf, nameAt, hasName, Named, hashOf, countOf, offsetOf, symbolOf, entries, fits, lastOf, roomFor, Chained};
 ghost use Rattle.names.specs.Change.{Pushed, Popped};
 
 // What an entry's name is the name of. A search asks for a range of kinds in this order.
@@ -180,7 +180,7 @@ pub fn push(s: &[u8], table: &mut [u16], offset: usize, kind: Kind)
 // One entry less, if there is one: the last goes.
 pub fn pop(s: &[u8], table: &mut [u16])
     requires { ⌜ Chained (now s) (now table) ⌝ }
-    ensures { λ r. ⌜ Popped (now (s .entry)) (now (table .entry)) (now (table .exit)) ⌝ }
+    ensures { λ r. ⌜ Popped (now (s .entry)) (now (table .entry)) 1 (now (table .exit)) ⌝ }
 {
     let n = word(table[1]);
     if n == 0 {
@@ -191,4 +191,25 @@ pub fn pop(s: &[u8], table: &mut [u16])
     let h = 2 + hash_at(s, word(table[at + 1]));
     table[h] = table[at];
     table[1] = last as u16;
+}
+
+// n entries less: the last n go.
+pub fn pop_last(s: &[u8], table: &mut [u16], n: u64)
+    requires { ⌜ Chained (now s) (now table) ⌝ }
+    ensures { λ r. ⌜ Popped (now (s .entry)) (now (table .entry)) n (now (table .exit)) ⌝ }
+{
+    let mut left = n;
+    while 0 < left {
+        pop(s, table);
+        left -= 1;
+    }
+}
+
+// Where the name of entry k stands.
+pub fn offset_of(table: &[u16], k: usize) -> usize
+    requires { ⌜ 1026 + 3 * k + 1 < length (now table) ⌝ }
+    ensures { λ r. ⌜ r ≡ offsetOf (now (table .entry)) k ⌝ }
+{
+    let at = 1026 + 3 * k;
+    word(table[at + 1])
 }

@@ -1,1 +1,3 @@
-pub mod Taken
+pub mod Known
+pub mod Walk
+pub mod Judged

@@ -47,9 +47,9 @@ unfolding decExpr
 expr-none enc l s at o o' r e = rw e (sends-refused (write-expr enc) o o' r 3)
 
 expr-at : (l : ℕ) (s : List ℕ) (at : ℕ) (n n' : ExprNode) → (l ≡ 0 → ⊥) → ExprAt s at n → n ≡ n' → decExpr l s at ≡ exprOf s (l - 1) (decExpr (l - 1)) n'
-unfolding decExpr ExprAt
+unfolding decExpr
 expr-at zero s at n n' z h e = absurd (z refl)
-expr-at (suc l) s at n n' z h e = rw (sub-one (suc l)) (h l (decExpr l) ∙ ap (exprOf s l (decExpr l)) e)
+expr-at (suc l) s at n n' z h e = rw (sub-one (suc l)) (h .is l (decExpr l) ∙ ap (exprOf s l (decExpr l)) e)
 
 module _ (enc : Encoder) (l : ℕ) (s : List ℕ) (at : ℕ) (n n' : ExprNode) (o o' : Output) (r : ℕ) where
   pub expr-arm : (l ≡ 0 → ⊥) → ExprAt s at n → n ≡ n' → Sends (write-expr enc) (exprOf s (l - 1) (decExpr (l - 1)) n') o o' r

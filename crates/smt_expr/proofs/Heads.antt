@@ -65,9 +65,9 @@ module _ (enc : Encoder) where
   -- what the node tells at every level is told of the expression
   told : (s : List ℕ) (at : ℕ) (n : ExprNode) (t : Bool) → ExprAt s at n → ((l : ℕ) (h : Expr) (p : ℕ) → exprOf s l (decExpr l) n ≡ got h p → t ≡ isQualified enc h)
       → TellsQualified enc s at t
-  unfolding TellsQualified ExprAt decExpr
+  unfolding TellsQualified decExpr
   told s at n t e f zero h p g = got-refuse (sym g)
-  told s at n t e f (suc l) h p g = f l h p (sym (e l (decExpr l)) ∙ g)
+  told s at n t e f (suc l) h p g = f l h p (sym (e .is l (decExpr l)) ∙ g)
 
   pub tells-other : (s : List ℕ) (at : ℕ) (n : ExprNode) → ExprAt s at n → OneOf others (tagOf the-type n) → TellsQualified enc s at false
   tells-other s at n e k = told s at n false e (λ l h p g. sym (unqualified s l (decExpr l) n k) ∙ ap (qualifiedIn enc) g)

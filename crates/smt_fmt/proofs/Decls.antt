@@ -33,9 +33,9 @@ unfolding decPred
 pred-none enc l s at o o' r e = rw e (sends-refused (write-pred enc) o o' r 3)
 
 pub pred-at : (l : ℕ) (s : List ℕ) (at : ℕ) (n n' : PredNode) → (l ≡ 0 → ⊥) → PredAt s at n → n ≡ n' → decPred l s at ≡ predOf s (decExpr (l - 1)) n'
-unfolding decPred PredAt
+unfolding decPred
 pred-at zero s at n n' z h e = absurd (z refl)
-pred-at (suc l) s at n n' z h e = rw (sub-one (suc l)) (h (decExpr l) ∙ ap (predOf s (decExpr l)) e)
+pred-at (suc l) s at n n' z h e = rw (sub-one (suc l)) (h .is (decExpr l) ∙ ap (predOf s (decExpr l)) e)
 
 module _ (enc : Encoder) (l : ℕ) (s : List ℕ) (at : ℕ) (n : PredNode) (o o' : Output) (r : ℕ) (z : l ≡ 0 → ⊥) (h : PredAt s at n) where
   pub kvar-arm : (x : Span) (k p : ℕ) → n ≡ pred-node.KVar x k p → Sends (kvarText enc (bytesOf s x)) (many Exprs.none Exprs.more (decExpr (l - 1)) k s p) o o' r

@@ -5,7 +5,7 @@ use mathlib.Core.List.{List, [], _∷_}
 use Rattle.smtlib.specs.Lexicon.{isOne}
 use Rattle.task.specs.Ast.{SortCtor, Sorts, Binder, Expr, DataDecl}
 use Rattle.task.specs.Fault.{needsSort}
-use Rattle.task.specs.Task.{declaredBy}
+use Rattle.task.specs.Scope.{declaredBy}
 
 -- `SmtEncoder`: the names of the declared constructors and datatypes
 pub record Encoder : Type 0 where

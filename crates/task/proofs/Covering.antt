@@ -130,3 +130,7 @@ module _ {A : Type 0} where
   pub covers-coded : (size : A → ℕ) (ds : List (Decoder A)) → CoverAll (λ a. size a - 1) ds → Covers size (coded ds)
   covers-coded size ds c =
       covers-bind size (λ k. 1) (number 1) (λ k. getD ds k (refusal 2)) (covers-number 1) (λ k. cover-at (λ a. size a - 1) ds k c)
+
+-- what is decoded ends no earlier than it begins
+pub forward : {A : Type 0} {size : A → ℕ} (d : Decoder A) → Covers size d → (s : List ℕ) (at : ℕ) (a : A) (p : ℕ) → d s at ≡ got a p → at ≤ p
+forward d c s at a p e = let z = c .covered s at a p e .end in omega arith

@@ -14,7 +14,7 @@ use Rattle.task.specs.declared.Fault.the-variants.{Text, NoConstructors,
 use Rattle.task.specs.Ast.{SortCtor, Sort, Sorts, Binder, Constant, Expr, Exprs, Pred, Constraint, Constraints, DataDecl, FunBody, FunDef, Task}
 use Rattle.task.specs.Decode.{got, refuse, raw, items, sortForms, decSort, binRels, exprForms, decExpr, decPred, decConstraint}
 use Rattle.task.specs.Fault.{lower, nameFault, textFault, sortFault, sortsFault, binderFault, needsSort, thyFuncFault, exprFault, exprsFault, predFault, shadowFault, constraintFault, constraintsFault, emptyFault, datatypeFault, arityFault, bodyFault, kvarFault, taskFault}
-use Rattle.task.specs.Scope.{takenNames, clashFault, constraintScope, scopeFault}
+use Rattle.task.specs.Scope.{takenNames, everywhere, inConstraint, arityOf, knownFault, exprScope, bodyScope, functionsScope, globalsOf, predScope, constraintNames, namesFault}
 use Rattle.task.specs.Task.{bound, framed, decoded, taskOf, literallyTrue, predHeads, headsOf, headsIn, declarations}
 use Rattle.task.specs.Returns.{write-sort-returns, write-thy-func-returns, write-application-head-returns, write-expr-returns, write-pred-returns, write-datatype-decl-returns, write-const-decl-returns, write-fun-def-returns, write-kvar-decl-returns}
 
@@ -160,23 +160,23 @@ one-of-each c = record {
   constraint = c;
 }
 
-pub clashes : map (λ x. scopeFault (one-of-each (Constraint.forAll x Sort.int [] nothing))) (map bytes ("d" ∷ "c" ∷ "f" ∷ "k" ∷ "g" ∷ "v" ∷ "x" ∷ []))
+pub clashes : map (λ x. namesFault (one-of-each (Constraint.forAll x Sort.int [] nothing))) (map bytes ("d" ∷ "c" ∷ "f" ∷ "k" ∷ "g" ∷ "v" ∷ "x" ∷ []))
     ≡ Sound ∷ Clash ∷ Clash ∷ Clash ∷ Clash ∷ Clash ∷ Sound ∷ []
-unfolding lower takenNames clashFault constraintScope scopeFault
+unfolding lower takenNames functionsScope bodyScope globalsOf constraintNames namesFault
 clashes = refl
 
 -- So is one under another, and one behind another member of a Conj.
-pub clashes-inside : scopeFault (one-of-each (Constraint.forAll (bytes "x") Sort.int [] (Constraint.forAll (bytes "k") Sort.int [] nothing))) ≡ Clash
-unfolding lower takenNames clashFault constraintScope scopeFault
+pub clashes-inside : namesFault (one-of-each (Constraint.forAll (bytes "x") Sort.int [] (Constraint.forAll (bytes "k") Sort.int [] nothing))) ≡ Clash
+unfolding lower takenNames functionsScope bodyScope globalsOf constraintNames namesFault
 clashes-inside = refl
 
-pub clashes-behind : scopeFault (one-of-each (Constraint.conj (Constraints.more (for-all-x nothing) (Constraints.more (Constraint.forAll (bytes "k") Sort.int [] nothing) Constraints.none)))) ≡ Clash
-unfolding lower takenNames clashFault constraintScope scopeFault
+pub clashes-behind : namesFault (one-of-each (Constraint.conj (Constraints.more (for-all-x nothing) (Constraints.more (Constraint.forAll (bytes "k") Sort.int [] nothing) Constraints.none)))) ≡ Clash
+unfolding lower takenNames functionsScope bodyScope globalsOf constraintNames namesFault
 clashes-behind = refl
 
 -- Case S has no such ForAll.
-pub s-names : scopeFault task-s ≡ Sound
-unfolding task-s lower takenNames clashFault constraintScope scopeFault
+pub s-names : namesFault task-s ≡ Sound
+unfolding task-s lower takenNames everywhere inConstraint arityOf knownFault exprScope functionsScope globalsOf predScope constraintNames namesFault
 s-names = refl
 
 -- An empty And is not literally true.

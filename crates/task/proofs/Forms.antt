@@ -19,6 +19,8 @@ use Rattle.task.specs.declared.SortNode.the-variants as sort-node
 use Rattle.task.specs.declared.ExprNode.{ExprNode}
 use Rattle.task.specs.declared.ExprNode.the-variants as expr-node
 use Rattle.task.specs.Decode.{got, refuse, number, name, flag, sortForms, exprForms}
+use Rattle.task.proofs.Covering.{covers-number, forward}
+use Rattle.task.proofs.Pieces.{each-covers, flags-cover}
 use Rattle.task.specs.Node.{numberOf, bytesOf, spanOf, flagOf, sortOf, exprOf, sortCode, sortWidth, namedCode, connectiveCode, flaggedCode, SortForm, ExprForm}
 
 -- the node of each kind
@@ -69,16 +71,16 @@ module _ (s : List ℕ) (at : ℕ) where
 
   -- a name
   name-refused : (k : NamedExpr) → name s at ≡ refuse 2 → ExprForm (namedCode k) s at expr-node.Refused
-  unfolding ExprForm exprForms exprOf
-  name-refused named.Var e = λ l expr. rw e
-  name-refused named.Let e = λ l expr. rw e
-  name-refused named.IsCtor e = λ l expr. rw e
+  unfolding exprForms exprOf
+  name-refused named.Var e = record { is = λ l expr. rw e; behind = tt }
+  name-refused named.Let e = record { is = λ l expr. rw e; behind = tt }
+  name-refused named.IsCtor e = record { is = λ l expr. rw e; behind = tt }
 
   name-got : (k : NamedExpr) (x : Span) (p : ℕ) → name s at ≡ got (bytesOf s x) p → ExprForm (namedCode k) s at (namedNode k x p)
-  unfolding ExprForm exprForms exprOf
-  name-got named.Var x p e = λ l expr. rw e
-  name-got named.Let x p e = λ l expr. rw e
-  name-got named.IsCtor x p e = λ l expr. rw e
+  unfolding exprForms exprOf
+  name-got named.Var x p e = record { is = λ l expr. rw e; behind = forward name (each-covers .names) s at (bytesOf s x) p e }
+  name-got named.Let x p e = record { is = λ l expr. rw e; behind = e }
+  name-got named.IsCtor x p e = record { is = λ l expr. rw e; behind = forward name (each-covers .names) s at (bytesOf s x) p e }
 
   module _ (k : NamedExpr) (r : SpanRead) (e : name s at ≡ spanOf s r) where
     pub expr-unnamed : r ≡ span-is.Refused → ExprForm (namedCode k) s at expr-node.Refused
@@ -89,14 +91,14 @@ module _ (s : List ℕ) (at : ℕ) where
 
   -- a count
   count-refused : (b : Bool) → number 2 s at ≡ refuse 2 → ExprForm (connectiveCode b) s at expr-node.Refused
-  unfolding ExprForm exprForms exprOf
-  count-refused false e = λ l expr. rw e
-  count-refused true e = λ l expr. rw e
+  unfolding exprForms exprOf
+  count-refused false e = record { is = λ l expr. rw e; behind = tt }
+  count-refused true e = record { is = λ l expr. rw e; behind = tt }
 
   count-got : (b : Bool) (n p : ℕ) → number 2 s at ≡ got n p → ExprForm (connectiveCode b) s at (connectiveNode b n p)
-  unfolding ExprForm exprForms exprOf
-  count-got false n p e = λ l expr. rw e
-  count-got true n p e = λ l expr. rw e
+  unfolding exprForms exprOf
+  count-got false n p e = record { is = λ l expr. rw e; behind = forward (number 2) (covers-number 2) s at n p e }
+  count-got true n p e = record { is = λ l expr. rw e; behind = forward (number 2) (covers-number 2) s at n p e }
 
   module _ (b : Bool) (x : Number) (e : number 2 s at ≡ numberOf x) where
     pub expr-uncounted : x ≡ number-is.Refused → ExprForm (connectiveCode b) s at expr-node.Refused
@@ -107,14 +109,14 @@ module _ (s : List ℕ) (at : ℕ) where
 
   -- a flag
   flag-refused : (b : Bool) → flag s at ≡ refuse 2 → ExprForm (flaggedCode b) s at expr-node.Refused
-  unfolding ExprForm exprForms exprOf
-  flag-refused false e = λ l expr. rw e
-  flag-refused true e = λ l expr. rw e
+  unfolding exprForms exprOf
+  flag-refused false e = record { is = λ l expr. rw e; behind = tt }
+  flag-refused true e = record { is = λ l expr. rw e; behind = tt }
 
   flag-got : (b v : Bool) (p : ℕ) → flag s at ≡ got v p → ExprForm (flaggedCode b) s at (flaggedNode b v p)
-  unfolding ExprForm exprForms exprOf
-  flag-got false v p e = λ l expr. rw e
-  flag-got true v p e = λ l expr. rw e
+  unfolding exprForms exprOf
+  flag-got false v p e = record { is = λ l expr. rw e; behind = forward flag flags-cover s at v p e }
+  flag-got true v p e = record { is = λ l expr. rw e; behind = forward flag flags-cover s at v p e }
 
   module _ (b : Bool) (x : FlagRead) (e : flag s at ≡ flagOf x) where
     pub expr-unflagged : x ≡ flag-is.Refused → ExprForm (flaggedCode b) s at expr-node.Refused

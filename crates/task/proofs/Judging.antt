@@ -8,7 +8,7 @@ use native.Mathlib.Omega.{arith}
 use lib.ListN.{getD}
 use borrow.Author.Tests.{le-leb, lt-leb}
 use Rattle.task.specs.declared.Fault.{Fault}
-use Rattle.task.specs.declared.Fault.the-variants.{Text, NoConstructors, BitVecWidth, Unqualified, WKVar, Arity, Shadowed, Clash, Sound}
+use Rattle.task.specs.declared.Fault.the-variants.{Text, NoConstructors, BitVecWidth, Unqualified, WKVar, Arity, Shadowed, Clash, Unknown, Arguments, Sound}
 use Rattle.task.specs.Fault.{rank, lower}
 use Rattle.task.specs.Laws.{SoundParts}
 use Rattle.task.proofs.Reading.{le-or-lt}
@@ -18,12 +18,12 @@ module _ (f g : Fault) where
   unfolding lower
   lower-left h = rw (le-leb _ _ h)
 
-  lower-right : rank g < rank f → lower f g ≡ g
+  pub lower-right : rank g < rank f → lower f g ≡ g
   unfolding lower
   lower-right h = rw (lt-leb _ _ h)
 
 -- nothing is judged behind a sound piece
-rank-most : (f : Fault) → rank f ≤ 9
+pub rank-most : (f : Fault) → rank f ≤ rank Sound
 rank-most Text = omega arith
 rank-most NoConstructors = omega arith
 rank-most BitVecWidth = omega arith
@@ -32,9 +32,11 @@ rank-most WKVar = omega arith
 rank-most Arity = omega arith
 rank-most Shadowed = omega arith
 rank-most Clash = omega arith
+rank-most Unknown = omega arith
+rank-most Arguments = omega arith
 rank-most Sound = omega arith
 
-sound-last : (f : Fault) → 9 ≤ rank f → f ≡ Sound
+pub sound-last : (f : Fault) → rank Sound ≤ rank f → f ≡ Sound
 sound-last Text h = absurd (omega arith)
 sound-last NoConstructors h = absurd (omega arith)
 sound-last BitVecWidth h = absurd (omega arith)
@@ -43,6 +45,8 @@ sound-last WKVar h = absurd (omega arith)
 sound-last Arity h = absurd (omega arith)
 sound-last Shadowed h = absurd (omega arith)
 sound-last Clash h = absurd (omega arith)
+sound-last Unknown h = absurd (omega arith)
+sound-last Arguments h = absurd (omega arith)
 sound-last Sound h = refl
 
 pub lower-sound : (f : Fault) → lower f Sound ≡ f
@@ -66,10 +70,10 @@ lower-assoc f g h =
     (le-or-lt (rank f) (rank g))
 
 -- the faults by their ranks, which begin with 1
-abbrev ranked : ℕ → Fault
-ranked n = getD (Sound ∷ Text ∷ NoConstructors ∷ BitVecWidth ∷ Unqualified ∷ WKVar ∷ Arity ∷ Shadowed ∷ Clash ∷ []) n Sound
+abbrev pub ranked : ℕ → Fault
+ranked n = getD (Sound ∷ Text ∷ NoConstructors ∷ BitVecWidth ∷ Unqualified ∷ WKVar ∷ Arity ∷ Shadowed ∷ Clash ∷ Unknown ∷ Arguments ∷ []) n Sound
 
-rank-ranked : (f : Fault) → ranked (rank f) ≡ f
+pub rank-ranked : (f : Fault) → ranked (rank f) ≡ f
 rank-ranked Text = refl
 rank-ranked NoConstructors = refl
 rank-ranked BitVecWidth = refl
@@ -78,6 +82,8 @@ rank-ranked WKVar = refl
 rank-ranked Arity = refl
 rank-ranked Shadowed = refl
 rank-ranked Clash = refl
+rank-ranked Unknown = refl
+rank-ranked Arguments = refl
 rank-ranked Sound = refl
 
 pub lower-comm : (f g : Fault) → lower f g ≡ lower g f
@@ -93,8 +99,8 @@ lower-comm f g =
 pub sound-parts : SoundParts
 sound-parts = record {
   none-left = λ f g e.
-      ⊎-elim (λ h. sym (lower-left f g h) ∙ e) (λ h. absurd (let r = rank-most f in let z : rank g ≡ 9 = ap rank (sym (lower-right f g h) ∙ e) in omega arith)) (le-or-lt (rank f) (rank g));
+      ⊎-elim (λ h. sym (lower-left f g h) ∙ e) (λ h. absurd (let r = rank-most f in let z : rank g ≡ rank Sound = ap rank (sym (lower-right f g h) ∙ e) in omega arith)) (le-or-lt (rank f) (rank g));
   none-right = λ f g e.
-      ⊎-elim (λ h. sound-last g (let z : rank f ≡ 9 = ap rank (sym (lower-left f g h) ∙ e) in omega arith)) (λ h. sym (lower-right f g h) ∙ e) (le-or-lt (rank f) (rank g));
+      ⊎-elim (λ h. sound-last g (let z : rank f ≡ rank Sound = ap rank (sym (lower-left f g h) ∙ e) in omega arith)) (λ h. sym (lower-right f g h) ∙ e) (le-or-lt (rank f) (rank g));
   none-both = λ f g e e'. rw (e, e') (lower-sound Sound);
 }

@@ -12,4 +12,7 @@ pub mod Returning
 pub mod Running
 pub mod Sections
 pub mod Opened
+pub mod Members
+pub mod Closing
+pub mod Naming
 pub mod Scoping

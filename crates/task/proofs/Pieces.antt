@@ -13,33 +13,33 @@ use Rattle.task.specs.Covers.{Covers, CoversSome, EachCovers}
 use Rattle.task.proofs.Covering.{covers-less, covers-refusal, covers-give, covers-cond, covers-raw, covers-bind, covers-many, covers-number, CoverAll, covers-coded}
 
 infixr 2 _⟫_
-abbrev CoversAny : {A : Type 0} → Decoder A → Type 0
+abbrev pub CoversAny : {A : Type 0} → Decoder A → Type 0
 CoversAny = Covers (λ a. 0)
 
 module _ {A : Type 0} where
-  any : {d : Decoder A} → CoversSome d → CoversAny d
+  pub any : {d : Decoder A} → CoversSome d → CoversAny d
   any {d} c = covers-less (λ a. 1) (λ a. 0) d (λ a. omega arith) c
 
-  nothing : {a : A} → CoversAny (give a)
+  pub nothing : {a : A} → CoversAny (give a)
   nothing {a} = covers-give (λ b. 0) a (omega arith)
 
 module _ {A B : Type 0} {d : Decoder A} {k : A → Decoder B} where
-  _⟫_ : CoversAny d → ((a : A) → CoversAny (k a)) → CoversAny (d ▹ k)
+  pub _⟫_ : CoversAny d → ((a : A) → CoversAny (k a)) → CoversAny (d ▹ k)
   _⟫_ c f = covers-bind (λ b. 0) (λ a. 0) d k c f
 
   some-then : CoversSome d → ((a : A) → CoversAny (k a)) → CoversSome (d ▹ k)
   some-then c f = covers-bind (λ b. 1) (λ a. 1) d k c f
 
-any-number : (n : ℕ) → CoversAny (number n)
+pub any-number : (n : ℕ) → CoversAny (number n)
 any-number n = covers-less (λ a. n) (λ a. 0) (number n) (λ a. omega arith) (covers-number n)
 
 any-raw : (n : ℕ) → CoversAny (raw n)
 any-raw n = covers-less (λ a. n) (λ a. 0) (raw n) (λ a. omega arith) (covers-raw n)
 
-any-many : {A B : Type 0} (end : B) (more : A → B → B) {d : Decoder A} → CoversAny d → (n : ℕ) → CoversAny (many end more d n)
+pub any-many : {A B : Type 0} (end : B) (more : A → B → B) {d : Decoder A} → CoversAny d → (n : ℕ) → CoversAny (many end more d n)
 any-many end more {d} c n = covers-many (λ b. 0) (λ a. 0) end more d (omega arith) (λ a b. omega arith) c n
 
-any-counted : {A B : Type 0} (end : B) (more : A → B → B) {d : Decoder A} → CoversAny d → CoversAny (counted end more d)
+pub any-counted : {A B : Type 0} (end : B) (more : A → B → B) {d : Decoder A} → CoversAny d → CoversAny (counted end more d)
 any-counted end more c = any-number 2 ⟫ λ n. any-many end more c n
 
 names : CoversSome name
@@ -59,7 +59,7 @@ end = CoverAll.none
 coded-some : {A : Type 0} (ds : List (Decoder A)) → CoverAll (λ a. 0) ds → CoversSome (coded ds)
 coded-some ds c = covers-coded (λ a. 1) ds c
 
-flags-cover : CoversAny flag
+pub flags-cover : CoversAny flag
 flags-cover = any (coded-some flags (nothing ∣ nothing ∣ end))
 
 sort-forms : (sort : Decoder Sort) → CoversAny sort → CoverAll (λ a. 0) (sortForms sort)
@@ -84,22 +84,22 @@ sorts (suc l) = coded-some (sortForms (decSort l)) (sort-forms (decSort l) (any 
 binders : (l : ℕ) → CoversSome (binder l)
 binders l = some-then names (λ n. any (sorts l) ⟫ λ b. nothing)
 
-ops : CoversSome (coded binOps)
+pub ops : CoversSome (coded binOps)
 unfolding binOps
 ops = coded-some binOps (nothing ∣ nothing ∣ nothing ∣ nothing ∣ nothing ∣ end)
 
-rels : CoversSome (coded binRels)
+pub rels : CoversSome (coded binRels)
 unfolding binRels
 rels = coded-some binRels (nothing ∣ nothing ∣ nothing ∣ nothing ∣ nothing ∣ nothing ∣ end)
 
-quants : CoversSome (coded quantifiers)
+pub quants : CoversSome (coded quantifiers)
 unfolding quantifiers
 quants = coded-some quantifiers (nothing ∣ nothing ∣ end)
 
 extend : (b : Bool) → CoversAny (extends b)
 extend b = any-number 1 ⟫ λ w. nothing
 
-thys : CoversSome (coded thyFuncs)
+pub thys : CoversSome (coded thyFuncs)
 unfolding thyFuncs
 thys =
     coded-some thyFuncs
@@ -108,7 +108,7 @@ thys =
     nothing ∣ nothing ∣ nothing ∣ nothing ∣ nothing ∣ nothing ∣ nothing ∣ nothing ∣ nothing ∣ nothing ∣ nothing ∣ nothing ∣
     nothing ∣ nothing ∣ nothing ∣ nothing ∣ nothing ∣ nothing ∣ nothing ∣ nothing ∣ nothing ∣ nothing ∣ nothing ∣ nothing ∣ end)
 
-givens : (l : ℕ) (b : Bool) → CoversAny (given l b)
+pub givens : (l : ℕ) (b : Bool) → CoversAny (given l b)
 givens l false = nothing
 givens l true = any (sorts l) ⟫ λ b. nothing
 

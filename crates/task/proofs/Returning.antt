@@ -13,7 +13,7 @@ use Rattle.task.specs.declared.ThyFunc.{ThyFunc}
 use Rattle.task.specs.declared.ThyFunc.the-variants.{StrLen, StrConcat, StrPrefixOf, StrSuffixOf, StrContains, BvZeroExtend, BvSignExtend, IntToBv8, Bv8ToInt, IntToBv32, Bv32ToInt, IntToBv64, Bv64ToInt, IntToBv128, Bv128ToInt, BvUle, BvSle, BvUge, BvSge, BvUdiv, BvSdiv, BvSrem, BvUrem, BvLshr, BvAshr, BvAnd, BvOr, BvXor, BvNot, BvAdd, BvNeg, BvSub, BvMul, BvShl, BvUgt, BvSgt, BvUlt, BvSlt, SetEmpty, SetSng, SetCup, SetCap, SetDif, SetSub, SetMem, MapDefault, MapSelect, MapStore}
 use Rattle.task.specs.Ast.{Sort, Sorts, Binder, Expr, Exprs, Pred, DataCtor, DataDecl, FunBody, FunDef, KVarDecl}
 use Rattle.task.specs.Fault.{lower, each, sortFault, sortsFault, binderFault, needsSort, thyFuncFault, isGiven, givenFault, exprFault, exprsFault, predFault, dataCtorFault, emptyFault, datatypeFault, bodyFault, functionFault, kvarFault}
-use Rattle.task.specs.Task.{isCtor}
+use Rattle.task.specs.Scope.{isCtor}
 use Rattle.task.specs.Returns.{every, isBvSize, isUnknown, write-sort-returns, write-sorts-return, write-binders-return, write-thy-func-returns, out-sort-returns, write-application-head-returns, write-expr-returns, write-exprs-return, write-pred-returns, isEmpty, write-datatype-decl-returns, write-const-decl-returns, write-args-return, write-fun-body-returns, write-fun-def-returns, write-kvar-decl-returns}
 use Rattle.task.specs.Laws.{SoundParts, Returning}
 use Rattle.task.proofs.Judging.{sound-parts}

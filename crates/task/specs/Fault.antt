@@ -8,7 +8,7 @@ use lib.Dec.{leb, eqb}
 use lib.ListN.{length}
 use Rattle.smtlib.specs.Lexicon.{all, isOne, visible, isSymbol}
 use Rattle.task.specs.declared.Fault.{Fault}
-use Rattle.task.specs.declared.Fault.the-variants.{Text, NoConstructors, BitVecWidth, Unqualified, WKVar, Arity, Shadowed, Clash, Sound}
+use Rattle.task.specs.declared.Fault.the-variants.{Text, NoConstructors, BitVecWidth, Unqualified, WKVar, Arity, Shadowed, Clash, Unknown, Arguments, Sound}
 use Rattle.task.specs.declared.ThyFunc.{ThyFunc}
 use Rattle.task.specs.declared.ThyFunc.the-variants.{StrLen, StrConcat, StrPrefixOf, StrSuffixOf, StrContains, BvZeroExtend, BvSignExtend, IntToBv8, Bv8ToInt, IntToBv32, Bv32ToInt, IntToBv64, Bv64ToInt, IntToBv128, Bv128ToInt, BvUle, BvSle, BvUge, BvSge, BvUdiv, BvSdiv, BvSrem, BvUrem, BvLshr, BvAshr, BvAnd, BvOr, BvXor, BvNot, BvAdd, BvNeg, BvSub, BvMul, BvShl, BvUgt, BvSgt, BvUlt, BvSlt, SetEmpty, SetSng, SetCup, SetCap, SetDif, SetSub, SetMem, MapDefault, MapSelect, MapStore}
 use Rattle.task.specs.Ast.{SortCtor, Sort, Sorts, Binder, Constant, Expr, Exprs, Pred, Constraint, Constraints, DataCtor, DataDecl, FunBody, FunDef, KVarDecl, Task}
@@ -23,10 +23,12 @@ rank WKVar = 5
 rank Arity = 6
 rank Shadowed = 7
 rank Clash = 8
-rank Sound = 9
+rank Unknown = 9
+rank Arguments = 10
+rank Sound = 11
 
 -- the number that is answered for a fault; 0 for none. W-206: of the forms that have no text a datatype without constructors keeps 5, and each
--- other has a number of its own, judged before 6. W-207: 15 is judged directly after 7.
+-- other has a number of its own, judged before 6. W-207: 15 is judged directly after 7. W-201: 10 and then 11 are judged last.
 abbrev pub refusalOf : Fault → ℕ
 refusalOf Text = 4
 refusalOf NoConstructors = 5
@@ -36,6 +38,8 @@ refusalOf WKVar = 14
 refusalOf Arity = 6
 refusalOf Shadowed = 7
 refusalOf Clash = 15
+refusalOf Unknown = 10
+refusalOf Arguments = 11
 refusalOf Sound = 0
 
 -- of two faults the one that is judged first

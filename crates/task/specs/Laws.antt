@@ -1,19 +1,15 @@
--- Which texts are at fault; what the writers need of faults and sections; that faults cover what the source panics on; and which names ForAlls
--- do not have.
+-- Which texts are at fault; what the writers need of faults and sections; and that faults cover what the source panics on.
 use Prim.Native.Nat.{ℕ, zero, suc, _<_, _≤_}
 use mathlib.Core.Path.{_≡_}
-use mathlib.Core.Bool.{true, false}
-use mathlib.Core.List.{List, [], _∷_, _++_, map}
+use mathlib.Core.Bool.{false}
+use mathlib.Core.List.{List, [], _∷_, _++_}
 use lib.Dec.{T}
 use lib.ListN.{length, getD, replicate}
-use Rattle.smtlib.specs.Lexicon.{isOne}
 use Rattle.task.specs.declared.Fault.{Fault}
-use Rattle.task.specs.declared.Fault.the-variants.{Text, Clash, Sound}
-use Rattle.task.specs.Ast.{Sort, Binder, Expr, Pred, Constraint, Constraints, DataCtor, DataDecl, FunDef, KVarDecl, Task}
-use Rattle.task.specs.Decode.{got, bind, Decoder, _▹_, many, binder, decPred, section}
-use Rattle.task.specs.Fault.{lower, textFault, sortFault, binderFault, exprFault, predFault, datatypeFault, functionFault, kvarFault, taskFault}
-use Rattle.task.specs.Scope.{scopeFault}
-use Rattle.task.specs.Task.{judgedBy, judged, taskOf, declaredBy}
+use Rattle.task.specs.declared.Fault.the-variants.{Text, Sound}
+use Rattle.task.specs.Ast.{Sort, Binder, Expr, Pred, DataDecl, FunDef, KVarDecl}
+use Rattle.task.specs.Decode.{got, Decoder, _▹_, many, binder, decPred, section}
+use Rattle.task.specs.Fault.{lower, textFault, sortFault, binderFault, exprFault, predFault, datatypeFault, functionFault, kvarFault}
 use Rattle.task.specs.Returns.{write-sort-returns, write-expr-returns, write-pred-returns, write-datatype-decl-returns, write-const-decl-returns, write-fun-def-returns, write-kvar-decl-returns}
 use Rattle.task.specs.Covers.{CoversSome}
 
@@ -71,50 +67,3 @@ pub record Returning (ds : List DataDecl) : Type 0 where
   pub constants : (b : Binder) → binderFault b ≡ Sound → T (write-const-decl-returns ds b)
   pub functions : (f : FunDef) → functionFault f ≡ Sound → T (write-fun-def-returns ds f)
   pub kvars : (k : KVarDecl) → kvarFault k ≡ Sound → T (write-kvar-decl-returns ds k)
-
--- the names of the ForAlls in a constraint, in the order of the file
-unfoldable mutual
-  pub forAllNames : Constraint → List (List ℕ)
-  forAllNames (Constraint.pred p) = []
-  forAllNames (Constraint.conj cs) = forAllsIn cs
-  forAllNames (Constraint.forAll x b ps c) = x ∷ forAllNames c
-
-  pub forAllsIn : Constraints → List (List ℕ)
-  forAllsIn Constraints.none = []
-  forAllsIn (Constraints.more c cs) = forAllNames c ++ forAllsIn cs
-
--- the names of the fields of constructors
-abbrev pub ctorFields : List DataCtor → List (List ℕ)
-ctorFields [] = []
-ctorFields (c ∷ cs) = map (λ b. b .name) (c .fields) ++ ctorFields cs
-
--- the names of the fields of datatypes
-abbrev pub fieldNames : List DataDecl → List (List ℕ)
-fieldNames [] = []
-fieldNames (d ∷ ds) = ctorFields (d .ctors) ++ fieldNames ds
-
--- no name is in both lists
-abbrev pub Disjoint : List (List ℕ) → List (List ℕ) → Type 0
-Disjoint xs ys = (x : List ℕ) → isOne x xs ≡ true → isOne x ys ≡ false
-
--- no ForAll has the name of a constant, a function, a constructor, a field or a KVar
-pub record Apart (t : Task) : Type 0 where
-  pub constants : Disjoint (forAllNames (t .constraint)) (map (λ b. b .name) (t .constants))
-  pub functions : Disjoint (forAllNames (t .constraint)) (map (λ f. f .name) (t .functions))
-  pub constructors : Disjoint (forAllNames (t .constraint)) (declaredBy true (t .datatypes))
-  pub fields : Disjoint (forAllNames (t .constraint)) (fieldNames (t .datatypes))
-  pub kvars : Disjoint (forAllNames (t .constraint)) (map (λ k. k .kvid) (t .kvars))
-
--- Names are judged behind pieces: where a piece is at fault its number is answered, and else that of the names. (proofs/Scoping.antt: judged-last)
-abbrev pub JudgedLast : Type 0
-JudgedLast = (t : Task) (end : ℕ) → judged t end ≡ bind (judgedBy taskFault t end) (judgedBy scopeFault)
-
--- W-207, said without the fold: so it is exactly where the names are without fault, and else the fault is that of 15. (proofs/Scoping.antt: scopes)
-pub record Scopes (t : Task) : Type 0 where
-  pub sound : scopeFault t ≡ Sound → Apart t
-  pub apart : Apart t → scopeFault t ≡ Sound
-  pub clash : (Apart t → ⊥) → scopeFault t ≡ Clash
-
--- and so it is in every task that a file holds (proofs/Scoping.antt: held-apart)
-abbrev pub HeldApart : Type 0
-HeldApart = (file : List ℕ) (t : Task) (end : ℕ) → taskOf file ≡ got t end → Apart t

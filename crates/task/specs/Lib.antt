@@ -6,5 +6,6 @@ pub mod Task
 pub mod Returns
 pub mod Covers
 pub mod Laws
+pub mod Names
 pub mod Node
 pub mod Run

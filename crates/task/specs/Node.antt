@@ -1,5 +1,5 @@
 -- What the code's answers stand for: the decoder's answer that each of them is. Only contracts of inner functions speak of them.
-use Prim.Native.Nat.{ℕ, _+_, _*_, _^_}
+use Prim.Native.Nat.{ℕ, _+_, _*_, _^_, _≤_}
 use mathlib.Core.Bool.{Bool, true, false}
 use mathlib.Core.List.{List, [], _∷_}
 use mathlib.Core.Path.{_≡_}
@@ -167,13 +167,40 @@ exprOf s l expr (expr-node.Quantifier q n p) =
     (many [] _∷_ (binder l) n ▹ λ bs. expr ▹ λ e. give (Expr.quantifier q bs e)) s p
 exprOf s l expr expr-node.Refused = refuse 2
 
+-- what an expression's node leaves to be read stands no earlier than a position, and a Let's name stands at the position
+abbrev pub ExprBehind : List ℕ → ℕ → ExprNode → Type 0
+ExprBehind s at (expr-node.Numeral lo hi p) = at ≤ p
+ExprBehind s at (expr-node.Boolean b p) = at ≤ p
+ExprBehind s at (expr-node.Real n p) = at ≤ p
+ExprBehind s at (expr-node.String x p) = at ≤ p
+ExprBehind s at (expr-node.BitVec lo hi w p) = at ≤ p
+ExprBehind s at (expr-node.Var x p) = at ≤ p
+ExprBehind s at (expr-node.WKVar p) = at ≤ p
+ExprBehind s at (expr-node.Neg p) = at ≤ p
+ExprBehind s at (expr-node.Not p) = at ≤ p
+ExprBehind s at (expr-node.BinaryOp o p) = at ≤ p
+ExprBehind s at (expr-node.Atom r p) = at ≤ p
+ExprBehind s at (expr-node.Imp p) = at ≤ p
+ExprBehind s at (expr-node.Iff p) = at ≤ p
+ExprBehind s at (expr-node.And n p) = at ≤ p
+ExprBehind s at (expr-node.Or n p) = at ≤ p
+ExprBehind s at (expr-node.IfThenElse p) = at ≤ p
+ExprBehind s at (expr-node.Let x p) = name s at ≡ got (bytesOf s x) p
+ExprBehind s at (expr-node.App b p) = at ≤ p
+ExprBehind s at (expr-node.ThyFunc f p) = at ≤ p
+ExprBehind s at (expr-node.IsCtor x p) = at ≤ p
+ExprBehind s at (expr-node.Quantifier q n p) = at ≤ p
+ExprBehind s at expr-node.Refused = Unit
+
 -- the node is what stands behind code k
-unfoldable pub ExprForm : ℕ → List ℕ → ℕ → ExprNode → Type 0
-ExprForm k s p n = (l : ℕ) (expr : Decoder Expr) → getD (exprForms l expr) k (refusal 2) s p ≡ exprOf s l expr n
+pub record ExprForm (k : ℕ) (s : List ℕ) (p : ℕ) (n : ExprNode) : Type 0 where
+  pub is : (l : ℕ) (expr : Decoder Expr) → getD (exprForms l expr) k (refusal 2) s p ≡ exprOf s l expr n
+  pub behind : ExprBehind s p n
 
 -- the node is what stands at the position
-unfoldable pub ExprAt : List ℕ → ℕ → ExprNode → Type 0
-ExprAt s at n = (l : ℕ) (expr : Decoder Expr) → coded (exprForms l expr) s at ≡ exprOf s l expr n
+pub record ExprAt (s : List ℕ) (at : ℕ) (n : ExprNode) : Type 0 where
+  pub is : (l : ℕ) (expr : Decoder Expr) → coded (exprForms l expr) s at ≡ exprOf s l expr n
+  pub behind : ExprBehind s (at + 1) n
 
 -- a predicate's node
 unfoldable pub predOf : List ℕ → Decoder Expr → PredNode → Res Pred
@@ -181,13 +208,21 @@ predOf s expr (pred-node.KVar x n p) = (many Exprs.none Exprs.more expr n ▹ λ
 predOf s expr (pred-node.Expr p) = (expr ▹ λ e. give (Pred.expr e)) s p
 predOf s expr pred-node.Refused = refuse 2
 
+-- what a predicate's node leaves to be read stands no earlier than a position
+abbrev pub PredBehind : ℕ → PredNode → Type 0
+PredBehind at (pred-node.KVar x n p) = at ≤ p
+PredBehind at (pred-node.Expr p) = at ≤ p
+PredBehind at pred-node.Refused = Unit
+
 -- the node is what stands behind code k
-unfoldable pub PredForm : ℕ → List ℕ → ℕ → PredNode → Type 0
-PredForm k s p n = (expr : Decoder Expr) → getD (predForms expr) k (refusal 2) s p ≡ predOf s expr n
+pub record PredForm (k : ℕ) (s : List ℕ) (p : ℕ) (n : PredNode) : Type 0 where
+  pub is : (expr : Decoder Expr) → getD (predForms expr) k (refusal 2) s p ≡ predOf s expr n
+  pub behind : PredBehind p n
 
 -- the node is what stands at the position
-unfoldable pub PredAt : List ℕ → ℕ → PredNode → Type 0
-PredAt s at n = (expr : Decoder Expr) → coded (predForms expr) s at ≡ predOf s expr n
+pub record PredAt (s : List ℕ) (at : ℕ) (n : PredNode) : Type 0 where
+  pub is : (expr : Decoder Expr) → coded (predForms expr) s at ≡ predOf s expr n
+  pub behind : PredBehind (at + 1) n
 
 -- a constraint's node
 unfoldable pub constraintOf : List ℕ → ℕ → Decoder Constraint → ConstraintNode → Res Constraint
@@ -198,10 +233,19 @@ constraintOf s l constraint (constraint-node.ForAll p) =
     (name ▹ λ x. decSort l ▹ λ b. counted [] _∷_ (decPred l) ▹ λ ps. constraint ▹ λ c. give (Constraint.forAll x b ps c)) s p
 constraintOf s l constraint constraint-node.Refused = refuse 2
 
+-- what a constraint's node leaves to be read stands no earlier than a position
+abbrev pub ConstraintBehind : ℕ → ConstraintNode → Type 0
+ConstraintBehind at (constraint-node.Pred p) = at ≤ p
+ConstraintBehind at (constraint-node.Conj n p) = at ≤ p
+ConstraintBehind at (constraint-node.ForAll p) = at ≤ p
+ConstraintBehind at constraint-node.Refused = Unit
+
 -- the node is what stands behind code k
-unfoldable pub ConstraintForm : ℕ → List ℕ → ℕ → ConstraintNode → Type 0
-ConstraintForm k s p n = (l : ℕ) (constraint : Decoder Constraint) → getD (constraintForms l constraint) k (refusal 2) s p ≡ constraintOf s l constraint n
+pub record ConstraintForm (k : ℕ) (s : List ℕ) (p : ℕ) (n : ConstraintNode) : Type 0 where
+  pub is : (l : ℕ) (constraint : Decoder Constraint) → getD (constraintForms l constraint) k (refusal 2) s p ≡ constraintOf s l constraint n
+  pub behind : ConstraintBehind p n
 
 -- the node is what stands at the position
-unfoldable pub ConstraintAt : List ℕ → ℕ → ConstraintNode → Type 0
-ConstraintAt s at n = (l : ℕ) (constraint : Decoder Constraint) → coded (constraintForms l constraint) s at ≡ constraintOf s l constraint n
+pub record ConstraintAt (s : List ℕ) (at : ℕ) (n : ConstraintNode) : Type 0 where
+  pub is : (l : ℕ) (constraint : Decoder Constraint) → coded (constraintForms l constraint) s at ≡ constraintOf s l constraint n
+  pub behind : ConstraintBehind (at + 1) n

@@ -8,7 +8,7 @@ use Prim.Native.Nat.{ℕ}
 use Rattle.task.specs.declared.ThyFunc.{ThyFunc}
 use Rattle.task.specs.declared.ThyFunc.the-variants.{StrLen, StrConcat, StrPrefixOf, StrSuffixOf, StrContains, BvZeroExtend, BvSignExtend, IntToBv8, Bv8ToInt, IntToBv32, Bv32ToInt, IntToBv64, Bv64ToInt, IntToBv128, Bv128ToInt, BvUle, BvSle, BvUge, BvSge, BvUdiv, BvSdiv, BvSrem, BvUrem, BvLshr, BvAshr, BvAnd, BvOr, BvXor, BvNot, BvAdd, BvNeg, BvSub, BvMul, BvShl, BvUgt, BvSgt, BvUlt, BvSlt, SetEmpty, SetSng, SetCup, SetCap, SetDif, SetSub, SetMem, MapDefault, MapSelect, MapStore}
 use Rattle.task.specs.Ast.{SortCtor, Sort, Sorts, Binder, Expr, Exprs, Pred, DataCtor, DataDecl, FunBody, FunDef, KVarDecl}
-use Rattle.task.specs.Task.{isDatatype, isCtor}
+use Rattle.task.specs.Scope.{isDatatype, isCtor}
 
 -- the writer returns for each of a list
 abbrev pub every : {A : Type 0} → (A → Bool) → List A → Bool

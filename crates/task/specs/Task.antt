@@ -1,15 +1,15 @@
 -- The whole file: document 01's trailer and sections, and what survey refuses, in the order of judging.
 use Prim.Native.Nat.{ℕ, _+_, _-_, _*_}
-use mathlib.Core.Bool.{Bool, true, false, cond, not, _&&_}
-use mathlib.Core.List.{List, [], _∷_, _++_}
+use mathlib.Core.Bool.{Bool, false, cond, _&&_}
+use mathlib.Core.List.{List}
 use lib.Dec.{leb, ltb, eqb}
 use lib.ListN.{length, take, drop}
-use Rattle.smtlib.specs.Lexicon.{bytes, same, isOne}
-use Rattle.task.specs.Ast.{Constant, Expr, Pred, Constraint, Constraints, DataCtor, DataDecl, Task}
+use Rattle.smtlib.specs.Lexicon.{bytes, same}
+use Rattle.task.specs.Ast.{Constant, Expr, Pred, Constraint, Constraints, Task}
 use Rattle.task.specs.Decode.{Res, got, refuse, bind, Decoder, little, comment, datatype, constant, function, kvar, decConstraint, deepest, section}
 use Rattle.task.specs.declared.Fault.{Fault}
-use Rattle.task.specs.Fault.{lower, refusalOf, taskFault}
-use Rattle.task.specs.Scope.{scopeFault}
+use Rattle.task.specs.Fault.{refusalOf, taskFault}
+use Rattle.task.specs.Scope.{namesFault}
 
 -- where the trailer begins
 abbrev pub trailerAt : List ℕ → ℕ
@@ -58,9 +58,9 @@ decoded file =
 abbrev pub judgedBy : (Task → Fault) → Task → ℕ → Res Task
 judgedBy fault t end = cond (eqb (refusalOf (fault t)) 0) (got t end) (refuse (refusalOf (fault t)))
 
--- the fault that is judged first: of a piece, or of a name (W-207)
+-- the fault that is judged first: that of a piece, and where there is none that of a name (W-207, W-201)
 unfoldable pub firstFault : Task → Fault
-firstFault t = lower (taskFault t) (scopeFault t)
+firstFault t = cond (eqb (refusalOf (taskFault t)) 0) (namesFault t) (taskFault t)
 
 -- from 4 on: the fault that is judged first, if there is one
 unfoldable pub judged : Task → ℕ → Res Task
@@ -121,26 +121,3 @@ unfoldable mutual
 -- the number of declarations
 abbrev pub declarations : Task → ℕ
 declarations t = length (t .datatypes) + length (t .constants) + length (t .functions) + length (t .kvars)
-
--- the names of constructors
-abbrev pub ctorNames : List DataCtor → List (List ℕ)
-ctorNames [] = []
-ctorNames (c ∷ cs) = c .name ∷ ctorNames cs
-
--- the names that a datatype declares: its own, or those of its constructors
-abbrev pub declared : Bool → DataDecl → List (List ℕ)
-declared false d = d .name ∷ []
-declared true d = ctorNames (d .ctors)
-
--- the names that datatypes declare
-abbrev pub declaredBy : Bool → List DataDecl → List (List ℕ)
-declaredBy ctors [] = []
-declaredBy ctors (d ∷ ds) = declared ctors d ++ declaredBy ctors ds
-
--- a name is that of a declared datatype
-abbrev pub isDatatype : List ℕ → List DataDecl → Bool
-isDatatype x ds = isOne x (declaredBy false ds)
-
--- a name is that of a declared constructor
-abbrev pub isCtor : List ℕ → List DataDecl → Bool
-isCtor x ds = isOne x (declaredBy true ds)

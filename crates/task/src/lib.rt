@@ -88,6 +88,8 @@ pub enum Fault {
     Arity,
     Shadowed,
     Clash,
+    Unknown,
+    Arguments,
     Sound,
 }
 

@@ -37,7 +37,7 @@ pub each-fold : {A : Type 0} (one : A → Fault) → Fold [] _∷_ one (each one
 each-fold one = record { none = refl; step = λ a rest. refl }
 
 -- what follows a piece has the same faults in two ways of telling them
-alike : {A B : Type 0} (x : Res A) (k k' : A → ℕ → Res B) (f f' : B → Fault) → ((a : A) (q : ℕ) → walked f (k a q) ≡ walked f' (k' a q))
+pub alike : {A B : Type 0} (x : Res A) (k k' : A → ℕ → Res B) (f f' : B → Fault) → ((a : A) (q : ℕ) → walked f (k a q) ≡ walked f' (k' a q))
     → walked f (bind x k) ≡ walked f' (bind x k')
 alike (got a q) k k' f f' h = h a q
 alike (refuse j) k k' f f' h = refl
@@ -66,63 +66,64 @@ walkParts s l (expr-parts.App b p) = walked (exprFault false) (applied l b s p)
 walkParts s l (expr-parts.Quantifier n p) = walked (exprFault false) (quantified l n s p)
 walkParts s l expr-parts.Refused = walked-is.Refused 2
 
-module _ (s : List ℕ) (l : ℕ) (head : Bool) where
-  leaf : (e : Expr) (f : Fault) (p : ℕ) → exprFault head e ≡ f → walked (exprFault head) (got e p) ≡ walkParts s l (expr-parts.Row 0 p f)
-  leaf e f p h = row-stop exprs-fold (decExpr l) s (exprFault head) f e p h
+-- an expression by its operands in a row: `one` is the fault of an operand, `all` that of operands in a row, `whole` that of the expression
+module _ {one : Expr → Fault} {all : Exprs → Fault} (fold : Fold Exprs.none Exprs.more one all) (whole : Expr → Fault) (s : List ℕ) (l : ℕ) where
+  pub leaf : (e : Expr) (f : Fault) (p : ℕ) → whole e ≡ f → walked whole (got e p) ≡ after f (walked all (many Exprs.none Exprs.more (decExpr l) 0 s p))
+  leaf e f p h = row-stop fold (decExpr l) s whole f e p h
 
-  unary : (k : Expr → Expr) (f : Fault) (p : ℕ) → ((a : Expr) → exprFault head (k a) ≡ lower f (exprFault false a))
-      → walked (exprFault head) ((decExpr l ▹ λ a. give (k a)) s p) ≡ walkParts s l (expr-parts.Row 1 p f)
+  pub unary : (k : Expr → Expr) (f : Fault) (p : ℕ) → ((a : Expr) → whole (k a) ≡ lower f (one a))
+      → walked whole ((decExpr l ▹ λ a. give (k a)) s p) ≡ after f (walked all (many Exprs.none Exprs.more (decExpr l) 1 s p))
   unary k f p h =
-      row-step exprs-fold (decExpr l) s (exprFault head) f (λ a. give (k a)) 0 p (λ a q.
-      row-stop exprs-fold (decExpr l) s (exprFault head) (lower f (exprFault false a)) (k a) q (h a))
+      row-step fold (decExpr l) s whole f (λ a. give (k a)) 0 p (λ a q.
+      row-stop fold (decExpr l) s whole (lower f (one a)) (k a) q (h a))
 
-  binary : (k : Expr → Expr → Expr) (f : Fault) (p : ℕ) → ((a b : Expr) → exprFault head (k a b) ≡ lower f (lower (exprFault false a) (exprFault false b)))
-      → walked (exprFault head) ((decExpr l ▹ λ a. decExpr l ▹ λ b. give (k a b)) s p) ≡ walkParts s l (expr-parts.Row 2 p f)
+  pub binary : (k : Expr → Expr → Expr) (f : Fault) (p : ℕ) → ((a b : Expr) → whole (k a b) ≡ lower f (lower (one a) (one b)))
+      → walked whole ((decExpr l ▹ λ a. decExpr l ▹ λ b. give (k a b)) s p) ≡ after f (walked all (many Exprs.none Exprs.more (decExpr l) 2 s p))
   binary k f p h =
-      row-step exprs-fold (decExpr l) s (exprFault head) f (λ a. decExpr l ▹ λ b. give (k a b)) 1 p (λ a q.
-      row-step exprs-fold (decExpr l) s (exprFault head) (lower f (exprFault false a)) (λ b. give (k a b)) 0 q (λ b r.
-      row-stop exprs-fold (decExpr l) s (exprFault head) (lower (lower f (exprFault false a)) (exprFault false b)) (k a b) r
-      (h a b ∙ sym (lower-assoc f (exprFault false a) (exprFault false b)))))
+      row-step fold (decExpr l) s whole f (λ a. decExpr l ▹ λ b. give (k a b)) 1 p (λ a q.
+      row-step fold (decExpr l) s whole (lower f (one a)) (λ b. give (k a b)) 0 q (λ b r.
+      row-stop fold (decExpr l) s whole (lower (lower f (one a)) (one b)) (k a b) r
+      (h a b ∙ sym (lower-assoc f (one a) (one b)))))
 
-  ternary : (k : Expr → Expr → Expr → Expr) (f : Fault) (p : ℕ)
-      → ((a b c : Expr) → exprFault head (k a b c) ≡ lower f (lower (exprFault false a) (lower (exprFault false b) (exprFault false c))))
-      → walked (exprFault head) ((decExpr l ▹ λ a. decExpr l ▹ λ b. decExpr l ▹ λ c. give (k a b c)) s p) ≡ walkParts s l (expr-parts.Row 3 p f)
+  pub ternary : (k : Expr → Expr → Expr → Expr) (f : Fault) (p : ℕ) → ((a b c : Expr) → whole (k a b c) ≡ lower f (lower (one a) (lower (one b) (one c))))
+      → walked whole ((decExpr l ▹ λ a. decExpr l ▹ λ b. decExpr l ▹ λ c. give (k a b c)) s p) ≡ after f (walked all (many Exprs.none Exprs.more (decExpr l) 3 s p))
   ternary k f p h =
-      row-step exprs-fold (decExpr l) s (exprFault head) f (λ a. decExpr l ▹ λ b. decExpr l ▹ λ c. give (k a b c)) 2 p (λ a q.
-      row-step exprs-fold (decExpr l) s (exprFault head) (lower f (exprFault false a)) (λ b. decExpr l ▹ λ c. give (k a b c)) 1 q (λ b r.
-      row-step exprs-fold (decExpr l) s (exprFault head) (lower (lower f (exprFault false a)) (exprFault false b)) (λ c. give (k a b c)) 0 r (λ c t.
-      row-stop exprs-fold (decExpr l) s (exprFault head) (lower (lower (lower f (exprFault false a)) (exprFault false b)) (exprFault false c)) (k a b c) t
-      (h a b c ∙ sym (lower-assoc f (exprFault false a) (lower (exprFault false b) (exprFault false c))) ∙ sym (lower-assoc (lower f (exprFault false a)) (exprFault false b) (exprFault false c))))))
+      row-step fold (decExpr l) s whole f (λ a. decExpr l ▹ λ b. decExpr l ▹ λ c. give (k a b c)) 2 p (λ a q.
+      row-step fold (decExpr l) s whole (lower f (one a)) (λ b. decExpr l ▹ λ c. give (k a b c)) 1 q (λ b r.
+      row-step fold (decExpr l) s whole (lower (lower f (one a)) (one b)) (λ c. give (k a b c)) 0 r (λ c t.
+      row-stop fold (decExpr l) s whole (lower (lower (lower f (one a)) (one b)) (one c)) (k a b c) t
+      (h a b c ∙ sym (lower-assoc f (one a) (lower (one b) (one c))) ∙ sym (lower-assoc (lower f (one a)) (one b) (one c))))))
 
-  nary : (k : Exprs → Expr) (n p : ℕ) → ((es : Exprs) → exprFault head (k es) ≡ exprsFault es)
-      → walked (exprFault head) ((many Exprs.none Exprs.more (decExpr l) n ▹ λ es. give (k es)) s p) ≡ walkParts s l (expr-parts.Row n p Sound)
-  nary k n p h = row-all exprs-fold (decExpr l) s (exprFault head) Sound k n p (λ es. h es ∙ sym (sound-lower (exprsFault es)))
+  pub nary : (k : Exprs → Expr) (n p : ℕ) → ((es : Exprs) → whole (k es) ≡ all es)
+      → walked whole ((many Exprs.none Exprs.more (decExpr l) n ▹ λ es. give (k es)) s p) ≡ after Sound (walked all (many Exprs.none Exprs.more (decExpr l) n s p))
+  nary k n p h = row-all fold (decExpr l) s whole Sound k n p (λ es. h es ∙ sym (sound-lower (all es)))
 
+module _ (s : List ℕ) (l : ℕ) (head : Bool) where
   node-walks : (n : ExprNode) → walked (exprFault head) (exprOf s l (decExpr l) n) ≡ walkParts s l (exprParts s head n)
   unfolding exprOf exprFault exprsFault
-  node-walks (expr-node.Numeral lo hi p) = leaf (Expr.constant (Constant.numeral (lo + 2 ^ 64 * hi))) _ p refl
-  node-walks (expr-node.Boolean b p) = leaf (Expr.constant (Constant.boolean b)) _ p refl
-  node-walks (expr-node.Real n p) = leaf (Expr.constant (Constant.real n)) _ p refl
-  node-walks (expr-node.String x p) = leaf (Expr.constant (Constant.string (bytesOf s x))) _ p refl
-  node-walks (expr-node.BitVec lo hi w p) = leaf (Expr.constant (Constant.bitVec (lo + 2 ^ 64 * hi) w)) _ p refl
-  node-walks (expr-node.Var x p) = leaf (Expr.var (bytesOf s x)) _ p refl
-  node-walks (expr-node.WKVar p) = leaf Expr.wkVar WKVar p refl
-  node-walks (expr-node.Neg p) = unary Expr.neg Sound p (λ a. sym (sound-lower (exprFault false a)))
-  node-walks (expr-node.Not p) = unary Expr.not Sound p (λ a. sym (sound-lower (exprFault false a)))
-  node-walks (expr-node.BinaryOp o p) = binary (Expr.binaryOp o) Sound p (λ a b. sym (sound-lower (lower (exprFault false a) (exprFault false b))))
-  node-walks (expr-node.Atom r p) = binary (Expr.atom r) Sound p (λ a b. sym (sound-lower (lower (exprFault false a) (exprFault false b))))
-  node-walks (expr-node.Imp p) = binary Expr.imp Sound p (λ a b. sym (sound-lower (lower (exprFault false a) (exprFault false b))))
-  node-walks (expr-node.Iff p) = binary Expr.iff Sound p (λ a b. sym (sound-lower (lower (exprFault false a) (exprFault false b))))
-  node-walks (expr-node.And n p) = nary Expr.and n p (λ es. refl)
-  node-walks (expr-node.Or n p) = nary Expr.or n p (λ es. refl)
+  node-walks (expr-node.Numeral lo hi p) = leaf exprs-fold (exprFault head) s l (Expr.constant (Constant.numeral (lo + 2 ^ 64 * hi))) _ p refl
+  node-walks (expr-node.Boolean b p) = leaf exprs-fold (exprFault head) s l (Expr.constant (Constant.boolean b)) _ p refl
+  node-walks (expr-node.Real n p) = leaf exprs-fold (exprFault head) s l (Expr.constant (Constant.real n)) _ p refl
+  node-walks (expr-node.String x p) = leaf exprs-fold (exprFault head) s l (Expr.constant (Constant.string (bytesOf s x))) _ p refl
+  node-walks (expr-node.BitVec lo hi w p) = leaf exprs-fold (exprFault head) s l (Expr.constant (Constant.bitVec (lo + 2 ^ 64 * hi) w)) _ p refl
+  node-walks (expr-node.Var x p) = leaf exprs-fold (exprFault head) s l (Expr.var (bytesOf s x)) _ p refl
+  node-walks (expr-node.WKVar p) = leaf exprs-fold (exprFault head) s l Expr.wkVar WKVar p refl
+  node-walks (expr-node.Neg p) = unary exprs-fold (exprFault head) s l Expr.neg Sound p (λ a. sym (sound-lower (exprFault false a)))
+  node-walks (expr-node.Not p) = unary exprs-fold (exprFault head) s l Expr.not Sound p (λ a. sym (sound-lower (exprFault false a)))
+  node-walks (expr-node.BinaryOp o p) = binary exprs-fold (exprFault head) s l (Expr.binaryOp o) Sound p (λ a b. sym (sound-lower (lower (exprFault false a) (exprFault false b))))
+  node-walks (expr-node.Atom r p) = binary exprs-fold (exprFault head) s l (Expr.atom r) Sound p (λ a b. sym (sound-lower (lower (exprFault false a) (exprFault false b))))
+  node-walks (expr-node.Imp p) = binary exprs-fold (exprFault head) s l Expr.imp Sound p (λ a b. sym (sound-lower (lower (exprFault false a) (exprFault false b))))
+  node-walks (expr-node.Iff p) = binary exprs-fold (exprFault head) s l Expr.iff Sound p (λ a b. sym (sound-lower (lower (exprFault false a) (exprFault false b))))
+  node-walks (expr-node.And n p) = nary exprs-fold (exprFault head) s l Expr.and n p (λ es. refl)
+  node-walks (expr-node.Or n p) = nary exprs-fold (exprFault head) s l Expr.or n p (λ es. refl)
   node-walks (expr-node.IfThenElse p) =
-      ternary Expr.ifThenElse Sound p (λ a b c. sym (sound-lower (lower (exprFault false a) (lower (exprFault false b) (exprFault false c)))))
-  node-walks (expr-node.Let x p) = binary (Expr.letIn (bytesOf s x)) (nameFault (bytesOf s x)) p (λ a b. refl)
+      ternary exprs-fold (exprFault head) s l Expr.ifThenElse Sound p (λ a b c. sym (sound-lower (lower (exprFault false a) (lower (exprFault false b) (exprFault false c)))))
+  node-walks (expr-node.Let x p) = binary exprs-fold (exprFault head) s l (Expr.letIn (bytesOf s x)) (nameFault (bytesOf s x)) p (λ a b. refl)
   node-walks (expr-node.App b p) =
       alike (given l b s p) _ _ (exprFault head) (exprFault false) (λ o q. alike (decExpr l s q) _ _ (exprFault head) (exprFault false) (λ h r.
       alike (counted Exprs.none Exprs.more (decExpr l) s r) _ _ (exprFault head) (exprFault false) (λ es t. refl)))
-  node-walks (expr-node.ThyFunc f p) = leaf (Expr.thyFunc f) _ p refl
-  node-walks (expr-node.IsCtor x p) = unary (Expr.isCtor (bytesOf s x)) (nameFault (bytesOf s x)) p (λ a. refl)
+  node-walks (expr-node.ThyFunc f p) = leaf exprs-fold (exprFault head) s l (Expr.thyFunc f) _ p refl
+  node-walks (expr-node.IsCtor x p) = unary exprs-fold (exprFault head) s l (Expr.isCtor (bytesOf s x)) (nameFault (bytesOf s x)) p (λ a. refl)
   node-walks (expr-node.Quantifier q n p) =
       alike (many [] _∷_ (binder l) n s p) _ _ (exprFault head) (exprFault false) (λ bs r. alike (decExpr l s r) _ _ (exprFault head) (exprFault false) (λ e t. refl))
   node-walks expr-node.Refused = refl
@@ -134,13 +135,13 @@ expr-none l s at head e = rw e
 module _ (l : ℕ) (s : List ℕ) (at : ℕ) (head : Bool) (node : ExprNode) (parts : ExprParts) where
   by-parts : (parts' : ExprParts) → (l ≡ 0 → ⊥) → ExprAt s at node → parts ≡ exprParts s head node → parts ≡ parts'
       → walkParts s (l - 1) parts' ≡ walked (exprFault head) (decExpr l s at)
-  unfolding decExpr ExprAt
+  unfolding decExpr
   by-parts parts' z h e e' = go l z
     where
       go : (k : ℕ) → (k ≡ 0 → ⊥) → walkParts s (k - 1) parts' ≡ walked (exprFault head) (decExpr k s at)
       go zero z = absurd (z refl)
       go (suc k) z =
-          rw (sub-one (suc k)) (ap (walkParts s k) (sym e' ∙ e) ∙ sym (node-walks s k head node) ∙ ap (walked (exprFault head)) (sym (h k (decExpr k))))
+          rw (sub-one (suc k)) (ap (walkParts s k) (sym e' ∙ e) ∙ sym (node-walks s k head node) ∙ ap (walked (exprFault head)) (sym (h .is k (decExpr k))))
 
   pub expr-row : (n p : ℕ) (f : Fault) (v w : Walked) → (l ≡ 0 → ⊥) → ExprAt s at node → parts ≡ exprParts s head node → parts ≡ expr-parts.Row n p f
       → v ≡ walked exprsFault (many Exprs.none Exprs.more (decExpr (l - 1)) n s p) → w ≡ after f v → w ≡ walked (exprFault head) (decExpr l s at)

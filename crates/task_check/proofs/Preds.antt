@@ -30,9 +30,9 @@ use Rattle.task_check.proofs.Exprs.{lasts}
 
 -- a predicate by its node
 pub pred-at : (l : ℕ) (s : List ℕ) (at : ℕ) (n n' : PredNode) → (l ≡ 0 → ⊥) → PredAt s at n → n ≡ n' → decPred l s at ≡ predOf s (decExpr (l - 1)) n'
-unfolding decPred PredAt
+unfolding decPred
 pred-at zero s at n n' z h e = absurd (z refl)
-pred-at (suc l) s at n n' z h e = rw (sub-one (suc l)) (h (decExpr l) ∙ ap (predOf s (decExpr l)) e)
+pred-at (suc l) s at n n' z h e = rw (sub-one (suc l)) (h .is (decExpr l) ∙ ap (predOf s (decExpr l)) e)
 
 pub pred-none : (l : ℕ) (s : List ℕ) (at : ℕ) → l ≡ 0 → walked-is.Refused 3 ≡ walked predFault (decPred l s at)
 unfolding decPred
@@ -132,10 +132,10 @@ module _ (l : ℕ) (s : List ℕ) (at : ℕ) (node : PredNode) where
 
     module _ (inner : ExprNode) (z' : l ≡ 1 → ⊥) (h' : ExprAt s p inner) where
       by-node : exprTrue (decExpr (l - 1) s p) ≡ exprTrue (exprOf s (l - 2) (decExpr (l - 2)) inner)
-      unfolding decExpr ExprAt
+      unfolding decExpr
       by-node =
           let k : l - 1 ≡ suc (l - 2) = omega arith in
-          ap (λ (j : ℕ). exprTrue (decExpr j s p)) k ∙ ap exprTrue (h' (l - 2) (decExpr (l - 2)))
+          ap (λ (j : ℕ). exprTrue (decExpr j s p)) k ∙ ap exprTrue (h' .is (l - 2) (decExpr (l - 2)))
 
       pub true-otherwise : OneOf otherNodes (tagOf expr-type inner) → false ≡ readTrue (decPred l s at)
       true-otherwise k = sym (by-expr ∙ by-node ∙ not-boolean s (l - 2) (decExpr (l - 2)) inner k)

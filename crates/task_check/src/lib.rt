@@ -52,7 +52,9 @@ fn rank(f: Fault) -> u8
         Fault::Arity => 6,
         Fault::Shadowed => 7,
         Fault::Clash => 8,
-        Fault::Sound => 9,
+        Fault::Unknown => 9,
+        Fault::Arguments => 10,
+        Fault::Sound => 11,
     }
 }
 

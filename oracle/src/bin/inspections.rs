@@ -208,46 +208,49 @@ impl Reader<'_> {
 // ---- The other refusals: all that holds of a tree, a bit for each
 
 /// In the order of judging; the lowest bit is the first's.
-const JUDGED: [u8; 8] = [4, 5, 12, 13, 14, 6, 7, 15];
+const JUDGED: [u8; 10] = [4, 5, 12, 13, 14, 6, 7, 15, 10, 11];
 
-const TEXT: u8 = 1;
-const NO_CTORS: u8 = 1 << 1;
-const WIDTH: u8 = 1 << 2;
-const NO_SORT: u8 = 1 << 3;
-const WEAK: u8 = 1 << 4;
-const ARITY: u8 = 1 << 5;
-const REPEATED: u8 = 1 << 6;
-const DECLARED: u8 = 1 << 7;
+type Faults = u16;
+const TEXT: Faults = 1;
+const NO_CTORS: Faults = 1 << 1;
+const WIDTH: Faults = 1 << 2;
+const NO_SORT: Faults = 1 << 3;
+const WEAK: Faults = 1 << 4;
+const ARITY: Faults = 1 << 5;
+const REPEATED: Faults = 1 << 6;
+const DECLARED: Faults = 1 << 7;
+const UNKNOWN: Faults = 1 << 8;
+const MISCOUNTED: Faults = 1 << 9;
 
 const RESERVED: &str = "! _ as let exists forall match par BINARY DECIMAL HEXADECIMAL NUMERAL STRING assert check-sat check-sat-assuming \
     declare-const declare-datatype declare-datatypes declare-fun declare-sort define-fun define-fun-rec define-funs-rec define-sort echo \
     exit get-assertions get-assignment get-info get-model get-option get-proof get-unsat-assumptions get-unsat-core get-value pop push \
     reset reset-assertions set-info set-logic set-option";
 
-fn fault_if(holds: bool, fault: u8) -> u8 {
+fn fault_if(holds: bool, fault: Faults) -> Faults {
     if holds { fault } else { 0 }
 }
 
-fn any<T>(items: &[T], faults: impl Fn(&T) -> u8) -> u8 {
+fn any<T>(items: &[T], faults: impl Fn(&T) -> Faults) -> Faults {
     items.iter().fold(0, |found, item| found | faults(item))
 }
 
 /// A symbol has letters, digits and 17 signs, no digit in front, and is no reserved word.
-fn in_name(name: &Name) -> u8 {
+fn in_name(name: &Name) -> Faults {
     let plain = |b: &u8| b.is_ascii_alphanumeric() || b"~!@$%^&*_-+=<>.?/".contains(b);
     let reserved = RESERVED.split_whitespace().any(|word| word.as_bytes() == &name[..]);
     fault_if(reserved || name[0].is_ascii_digit() || !name.iter().all(plain), TEXT)
 }
 
-fn in_text(text: &Vec<u8>) -> u8 {
+fn in_text(text: &Vec<u8>) -> Faults {
     fault_if(text.iter().any(|b| !(32..=126).contains(b)), TEXT)
 }
 
-fn in_named_sort((name, sort): &(Name, Sort)) -> u8 {
+fn in_named_sort((name, sort): &(Name, Sort)) -> Faults {
     in_name(name) | in_sort(sort)
 }
 
-fn in_sort(sort: &Sort) -> u8 {
+fn in_sort(sort: &Sort) -> Faults {
     match sort {
         Sort::Plain => 0,
         Sort::BvSize => WIDTH,
@@ -261,7 +264,7 @@ fn needs_sort(expr: &Expr) -> bool {
     matches!(expr, Expr::ThyFunc(SET_EMPTY | MAP_DEFAULT))
 }
 
-fn in_expr(expr: &Expr) -> u8 {
+fn in_expr(expr: &Expr) -> Faults {
     match expr {
         Expr::Number | Expr::Boolean(_) => 0,
         Expr::String(text) => in_text(text),
@@ -276,14 +279,14 @@ fn in_expr(expr: &Expr) -> u8 {
     }
 }
 
-fn in_pred(pred: &Pred) -> u8 {
+fn in_pred(pred: &Pred) -> Faults {
     match pred {
         Pred::KVar(name, args) => in_name(name) | any(args, in_expr),
         Pred::Expr(e) => in_expr(e),
     }
 }
 
-fn in_constraint(constraint: &Constraint, declared: &HashSet<&Name>, around: &[&Name]) -> u8 {
+fn in_constraint(constraint: &Constraint, declared: &HashSet<&Name>, around: &[&Name]) -> Faults {
     match constraint {
         Constraint::Pred(pred) => in_pred(pred),
         Constraint::Conj(members) => any(members, |c| in_constraint(c, declared, around)),
@@ -295,7 +298,7 @@ fn in_constraint(constraint: &Constraint, declared: &HashSet<&Name>, around: &[&
     }
 }
 
-fn in_function(function: &Function) -> u8 {
+fn in_function(function: &Function) -> Faults {
     let in_body = |(args, e): &(Vec<Name>, Expr)| fault_if(args.len() != function.inputs.len(), ARITY) | any(args, in_name) | in_expr(e);
     in_name(&function.name) | any(&function.inputs, in_sort) | in_sort(&function.output) | function.body.as_ref().map_or(0, in_body)
 }
@@ -313,7 +316,7 @@ fn declared(task: &Task) -> HashSet<&Name> {
     names
 }
 
-fn in_task(task: &Task) -> u8 {
+fn in_task(task: &Task) -> Faults {
     any(&task.comments, in_text)
         | any(&task.datatypes, |(name, ctors)| {
             in_name(name) | fault_if(ctors.is_empty(), NO_CTORS) | any(ctors, |(name, fields)| in_name(name) | any(fields, in_named_sort))
@@ -322,7 +325,75 @@ fn in_task(task: &Task) -> u8 {
         | any(&task.functions, in_function)
         | any(&task.kvars, |(name, sorts)| in_name(name) | any(sorts, in_sort))
         | in_constraint(&task.constraint, &declared(task), &[])
+        | names_in_task(task)
 }
+
+// ---- Names: a second walk over the tree, with what is known at each place
+
+/// The names of one scope, and what is known around it.
+struct Known<'k> { names: Vec<&'k Name>, around: Option<&'k Known<'k>> }
+
+impl<'k> Known<'k> {
+    fn has(&self, name: &Name) -> bool { self.names.contains(&name) || self.around.is_some_and(|around| around.has(name)) }
+    fn with(&'k self, names: impl IntoIterator<Item = &'k Name>) -> Known<'k> { Known { names: names.into_iter().collect(), around: Some(self) } }
+}
+
+/// Constructors, and KVars with their numbers of sorts, in the order of the file.
+struct Signature<'t> { ctors: HashSet<&'t Name>, kvars: Vec<(&'t Name, usize)> }
+
+impl Signature<'_> {
+    fn in_exprs(&self, exprs: &[Expr], known: &Known) -> Faults { any(exprs, |e| self.in_expr(e, known)) }
+
+    fn in_expr(&self, expr: &Expr, known: &Known) -> Faults {
+        match expr {
+            Expr::Number | Expr::Boolean(_) | Expr::String(_) | Expr::WKVar | Expr::ThyFunc(_) => 0,
+            Expr::Var(name) => fault_if(!known.has(name), UNKNOWN),
+            Expr::Operation(operands) => self.in_exprs(operands, known),
+            Expr::Let(name, operands) => self.in_expr(&operands[0], known) | self.in_expr(&operands[1], &known.with([name])),
+            Expr::App(_, head, args) => self.in_expr(head, known) | self.in_exprs(args, known),
+            Expr::IsCtor(name, operands) => fault_if(!self.ctors.contains(name), UNKNOWN) | self.in_exprs(operands, known),
+            Expr::Quantifier(binders, body) => self.in_expr(body, &known.with(binders.iter().map(|(name, _)| name))),
+        }
+    }
+
+    fn in_pred(&self, pred: &Pred, known: &Known) -> Faults {
+        match pred {
+            Pred::KVar(name, args) => {
+                let sorts = self.kvars.iter().find(|(declared, _)| *declared == name).map(|(_, sorts)| *sorts);
+                let fault = fault_if(sorts.is_none(), UNKNOWN) | fault_if(sorts.is_some_and(|sorts| sorts != args.len()), MISCOUNTED);
+                fault | self.in_exprs(args, known)
+            }
+            Pred::Expr(e) => self.in_expr(e, known),
+        }
+    }
+
+    fn in_constraint(&self, constraint: &Constraint, known: &Known) -> Faults {
+        match constraint {
+            Constraint::Pred(pred) => self.in_pred(pred, known),
+            Constraint::Conj(members) => any(members, |c| self.in_constraint(c, known)),
+            Constraint::ForAll(name, _, preds, body) => {
+                let inside = known.with([name]);
+                any(preds, |pred| self.in_pred(pred, &inside)) | self.in_constraint(body, &inside)
+            }
+        }
+    }
+}
+
+fn names_in_task(task: &Task) -> Faults {
+    let ctors = || task.datatypes.iter().flat_map(|(_, ctors)| ctors);
+    let signature = Signature {
+        ctors: ctors().map(|(name, _)| name).collect(),
+        kvars: task.kvars.iter().map(|(name, sorts)| (name, sorts.len())).collect(),
+    };
+    let fields = ctors().flat_map(|(_, fields)| fields);
+    let names = ctors().map(|(name, _)| name).chain(fields.chain(&task.constants).map(|(name, _)| name));
+    let declared = Known { names: names.collect(), around: None };
+    let before = |end: usize| declared.with(task.functions[..end].iter().map(|function| &function.name));
+    let bodies = task.functions.iter().enumerate().filter_map(|(i, function)| Some((i, function.body.as_ref()?)));
+    let in_bodies = bodies.fold(0, |found, (i, (args, e))| found | signature.in_expr(e, &before(i).with(args)));
+    in_bodies | signature.in_constraint(&task.constraint, &before(task.functions.len()))
+}
+
 
 // ---- The answer
 
@@ -352,15 +423,22 @@ fn inspect(file: &[u8]) -> Answer<Inspection> {
 
 // ---- Files in the notation of words
 
-/// A name, one that is declared, a binder, a sort, an expression, a predicate, a constraint; a head literally true and one that is not; ForAlls
-/// without a body.
+/// A name, one that is declared, a binder, those of a Var, of an IsCtor and of a KVar predicate; a sort, an expression, a predicate, a constraint; a
+/// head literally true and one that is not; ForAlls without a body.
 const USUAL: &Usual = &[
-    ("N", "'n"), ("M", "'m"), ("B", "'x"), ("S", "0"), ("E", "1 0"), ("P", "0 'k #0"), ("C", "1 #0"),
+    ("N", "'n"), ("M", "'m"), ("B", "'x"), ("V", "'n"), ("W", "'n"), ("K", "'n"), ("S", "0"), ("E", "1 0"), ("P", "0 'k #0"), ("C", "1 #0"),
     ("T", "0 1 1 1"), ("H", "0 0 'k #0"), ("X", "2 'x 0 #0"), ("Y", "2 'y 0 #0"),
 ];
 
+/// Declarations of the names in them: `n` is a constructor and a KVar; `l` is a KVar with two sorts.
+const USUAL_DECLARED: &str = "d: 'U *2 #1 'n #0 v: 'k #0 'n #0 'l #2 S S";
+const MANY_DECLARED: usize = 4;
+
 fn bytes(words: &str) -> Vec<u8> { words::bytes(words, USUAL).expect("words") }
 fn sections(words: &str) -> Vec<Vec<u8>> { words::sections(words, USUAL).expect("words") }
+
+/// With the usual declarations in front.
+fn closed(words: &str) -> Vec<Vec<u8>> { sections(&format!("{USUAL_DECLARED} {words}")) }
 
 /// Each kind of piece: its letter, a file with one, the level there (0 for an item), its forms, and some forms that are refused.
 type Kind = (&'static str, &'static str, usize, &'static [&'static str], &'static [&'static str]);
@@ -373,10 +451,10 @@ const KINDS: [Kind; 9] = [
     ("v", "v: @", 0, &["'k #0", "M #2 1 S"], &["M #1 5 *4"]),
     ("S", "k: 'c @", 1, &["0", "1", "2", "3", "4 5 8 *3", "6 1 0", "7 S S", "8 1 0 S", "9 #0", "9 #1 S", "10 #2 0 S", "11 'D #0",
         "11 N #1 S"], &["5 8 *3", "4 0", "4 4 5 *4"]),
-    ("E", "h: 0 1 @", 3, &["0 *16", "1 0", "2 *4", "3 #0", "3 #2 32 126", "3 #2 34 34", "4 *20", "5 N", "7 E", "8 E", "9 4 E E", "10 5 E E",
+    ("E", "h: 0 1 @", 3, &["0 *16", "1 0", "2 *4", "3 #0", "3 #2 32 126", "3 #2 34 34", "4 *20", "5 V", "7 E", "8 E", "9 4 E E", "10 5 E E",
         "11 E E", "12 E E", "13 #0", "13 #1 E", "14 #3 E E E", "15 E E E", "16 N E E", "17 0 E #1 E", "17 1 S 18 38 #0", "17 1 0 18 45 #1 E", "18 0",
-        "18 5 255", "19 N E", "20 0 #0 E", "20 1 #2 N S 'q 1 E"], &["6", "18 38", "18 45", "17 0 18 38 #0", "3 #1 127", "3 #2 34 31"]),
-    ("P", "h: 0 @", 2, &["1 E", "1 1 1", "0 N #0", "0 'k #2 E E"], &["0 'let #0"]),
+        "18 5 255", "19 W E", "20 0 #0 E", "20 1 #2 N S 'q 1 E"], &["6", "18 38", "18 45", "17 0 18 38 #0", "3 #1 127", "3 #2 34 31"]),
+    ("P", "h: 0 @", 2, &["1 E", "1 1 1", "0 K #0", "0 'l #2 E E"], &["0 'let #0", "0 'k #1 E", "0 'l #0", "0 'l #3 E E E"]),
     ("C", "h: @", 1, &["0 P", "1 #0", "1 #2 C C", "1 #3 C C C", "2 B 0 #0 C", "2 B S #2 P P C"], &[]),
 ];
 
@@ -392,6 +470,9 @@ impl Place {
     fn with(&self, times: usize, piece: &str) -> String {
         [self.file[0], &self.own[0].repeat(times), piece, " ", &self.own[1].repeat(times), self.file[1]].concat()
     }
+
+    /// Whether a name there has to be known.
+    fn is_use(&self) -> bool { ["5 V", "19 W E", "0 K #0"].contains(&self.form) }
 }
 
 /// The places for pieces of this kind in forms of the same kind (`nested`) or of others.
@@ -415,7 +496,7 @@ fn rich() -> Vec<Vec<String>> {
     let (sorts, exprs) = (KINDS[5].3, KINDS[6].3);
     let datatype = format!("'D 2 0 #1 'd #{} 'f {}", sorts.len(), sorts.join(" 'f "));
     let constraint = format!("2 'x 0 #1 1 1 1 1 #3 H T 2 'y S #1 P 0 1 13 #{} {}", exprs.len(), exprs.join(" "));
-    let (comments, datatypes, constants) = (["#0", "\"(ok)"], ["'E 0 0 #1 'e #0", &datatype], ["'a 0", "'b 11 'D #2 0 1"]);
+    let (comments, datatypes, constants) = (["#0", "\"(ok)"], ["'E 0 0 #1 'n #0", &datatype], ["'a 0", "'b 11 'D #2 0 1"]);
     let items = [&comments[..], &datatypes, &constants, KINDS[3].3, KINDS[4].3, &[&constraint]];
     items.iter().map(|items| items.iter().map(|item| item.to_string()).collect()).collect()
 }
@@ -444,7 +525,13 @@ impl Cases {
         assert_eq!(self.answer(file), expected, "bytes {file:?}");
     }
 
+    /// A file with the usual declarations, and the other declarations and the heads that are due.
     fn is(&mut self, expected: Answer<(usize, usize)>, words: &str) {
+        self.file(expected.map(|(declarations, heads)| (declarations + MANY_DECLARED, heads)), &joined(&closed(words)));
+    }
+
+    /// One without them.
+    fn just(&mut self, expected: Answer<(usize, usize)>, words: &str) {
         self.file(expected, &joined(&sections(words)));
     }
 
@@ -486,11 +573,11 @@ fn limits(cases: &mut Cases) {
     let comments = |rest: usize, last: u8| format!("c: {} #{rest} {} {last}", comment.repeat(604), "100 ".repeat(rest - 1));
     let wide = |count: usize| format!("h: 1 #{count} {} C C C", "T 0 1 1 0 0 1 E ".repeat(4996) + "T 0 1 E");
     assert!([comments(171, 100), wide(0)].iter().all(|words| sections(words).concat().len() + TRAILER == LONGEST));
-    cases.is(Ok((0, 0)), &comments(171, 100));
-    cases.no(4, &comments(171, 127));
-    cases.no(1, &comments(172, 100));
-    cases.is(Ok((0, 9993)), &wide(14993));
-    cases.no(2, &wide(14994));
+    cases.just(Ok((0, 0)), &comments(171, 100));
+    cases.just(Err(4), &comments(171, 127));
+    cases.just(Err(1), &comments(172, 100));
+    cases.just(Ok((0, 9993)), &wide(14993));
+    cases.just(Err(2), &wide(14994));
 }
 
 fn codes(cases: &mut Cases) {
@@ -522,7 +609,9 @@ fn codes(cases: &mut Cases) {
         cases.is(yes(flag < 2, (1, 0), 2), &format!("f: 'f *2 #0 S {flag} {body}"));
     }
     // Only Boolean true itself is literally true
-    ["13 #1 1 1", "8 1 0", "5 'true", "17 0 1 1 #0"].iter().for_each(|expr| cases.is(Ok((0, 1)), &format!("h: 0 1 {expr}")));
+    for expr in ["13 #1 1 1", "8 1 0", "5 'true", "17 0 1 1 #0"] {
+        cases.is(Ok((0, 1)), &format!("h: 2 'true S #0 0 1 {expr}"));
+    }
     // The two functions that need an output sort
     for (expected, expr) in [
         (Ok((0, 1)), "17 1 S @ #0"), (Ok((0, 1)), "17 0 17 1 S @ #0 #0"), (Err(13), "17 0 @ #0"), (Err(13), "17 0 E #1 @"),
@@ -534,12 +623,17 @@ fn codes(cases: &mut Cases) {
 
 fn names(cases: &mut Cases) {
     let long = format!("'{}", "a".repeat(255));
-    for (i, place) in ["N", "M", "B"].iter().flat_map(|piece| places(piece, false)).enumerate() {
+    for (i, place) in ["N", "M", "B", "V", "W", "K"].iter().flat_map(|piece| places(piece, false)).enumerate() {
         cases.no(2, &place.with(1, "0"));
         cases.no(4, &place.with(1, ["'1z", "'par"][i % 2]));
-        if i % 4 == 0 {
+        if i % 4 == 0 && !place.is_use() {
             cases.is(Ok(place.counts), &place.with(1, &long));
         }
+    }
+    for place in ["V", "W", "K"].iter().flat_map(|piece| places(piece, false)) {
+        cases.no(10, &place.with(1, &long));
+        let declared = format!("d: 'L *2 #1 {long} #0 v: {long} #0");
+        cases.is(Ok((place.counts.0 + 2, place.counts.1)), &format!("{declared} {}", place.with(1, &long)));
     }
     for word in "lets Let check-sat-assumin asserts __ -1 ~!@$%^&*_-+=<>.?/".split(' ') {
         cases.is(Ok((1, 0)), &format!("k: '{word} S"));
@@ -554,7 +648,7 @@ fn names(cases: &mut Cases) {
     cases.no(2, &format!("c: #257 {long}"));
     cases.is(Ok((0, 1)), &format!("h: 0 1 3 #257 {long} 34"));
     cases.no(4, &format!("h: 0 1 3 #258 34 {long} 31"));
-    cases.is(Ok((0, 1)), &format!("h: 0 1 3 #59967 {}", "34 ".repeat(59_967)));
+    cases.just(Ok((0, 1)), &format!("h: 0 1 3 #59967 {}", "34 ".repeat(59_967)));
     for byte in [10, 31, 32, 34, 126, 127, 128] {
         let printable = (32..127).contains(&byte);
         cases.is(if printable { Ok((0, 0)) } else { Err(4) }, &format!("c: #0 #2 97 {byte}"));
@@ -628,8 +722,8 @@ fn clashes(cases: &mut Cases) {
         // Other names do not count: of a datatype, an argument, a Let, a Quantifier, and where a name is used
         (Ok((1, 1)), "d: 'x *2 #1 'c #0 h: X H"), (Ok((1, 1)), "f: 'f *2 #1 S S 1 #1 'x E h: X H"),
         (Ok((1, 1)), "f: 'f *2 #0 S 1 #0 16 'x E 5 'x h: X H"), (Ok((1, 1)), "f: 'f *2 #0 S 1 #0 20 0 #1 'x S 5 'x h: X H"),
-        (Ok((0, 1)), "h: X 0 1 16 'x E E"), (Ok((0, 1)), "h: X 0 1 20 1 #2 'y S 'x S E"), (Ok((0, 1)), "h: 2 'x S #1 0 'x #0 0 0 'x #1 5 'x"),
-        (Ok((1, 1)), "k: 'c 11 'x #0 h: X H"), (Ok((0, 1)), "h: X 0 1 19 'x E"), (Ok((2, 1)), "k: 'k S v: 'k #0 h: X H"),
+        (Ok((0, 1)), "h: X 0 1 16 'x E E"), (Ok((0, 1)), "h: X 0 1 20 1 #2 'y S 'x S E"), (Err(10), "h: 2 'x S #1 0 'x #0 0 0 'x #1 5 'x"),
+        (Ok((1, 1)), "k: 'c 11 'x #0 h: X H"), (Err(10), "h: X 0 1 19 'x E"), (Ok((2, 1)), "k: 'k S v: 'k #0 h: X H"),
         // Declared names as those of a Let, a Quantifier and an argument
         (Ok((1, 1)), "k: 'c S h: X 0 1 16 'c E 20 0 #1 'c S E"), (Ok((2, 0)), "k: 'c S f: 'f *2 #1 S S 1 #1 'c E"),
         (Err(15), "d: 'x *2 #1 'x #0 h: X C"), (Err(15), "d: 'x *2 #1 'c #0 v: 'x #0 h: X C"), (Err(15), "k: 'x S 'x S h: X C"),
@@ -640,20 +734,100 @@ fn clashes(cases: &mut Cases) {
     }
 }
 
+/// Expressions in which the Var z is bound, and others in which it is free.
+const BOUND: [&str; 8] = [
+    "16 'z E 5 'z", "16 'y E 16 'z 5 'y 5 'z", "20 0 #1 'z S 5 'z", "20 1 #3 'y S 'z S 'x S 7 5 'z", "16 'z E 13 #2 16 'z 5 'z 5 'z 5 'z",
+    "20 0 #1 'z S 13 #2 20 0 #1 'z S 5 'z 5 'z", "16 'z E 17 0 5 'z #1 19 W 5 'z", "20 0 #2 'z S 'z S 16 'z 5 'z 5 'z",
+];
+const FREE: [&str; 12] = [
+    "5 'z", "16 'z 5 'z E", "13 #2 16 'z E 5 'z 5 'z", "13 #2 5 'z 16 'z E 5 'z", "20 0 #0 5 'z", "13 #2 20 1 #1 'z S 5 'z 5 'z",
+    "16 'y 16 'z E 5 'z 5 'z", "17 0 5 'z #1 E", "17 1 S 5 'z #0", "19 W 5 'z", "15 E E 5 'z", "20 1 #1 'zz S 16 'Z E 5 'z",
+];
+
+/// Files with an expression for `@` where z is known, and where it is not, with their declarations and heads.
+const KNOWN: [(&str, (usize, usize)); 9] = [
+    ("k: 'z S h: 0 1 @", (1, 1)), ("d: 'D *2 #2 'c #0 'z #0 h: 0 1 @", (1, 1)), ("d: 'D *2 #1 'c #2 'f S 'z S h: 0 1 @", (1, 1)),
+    ("f: 'z *2 #0 S 0 h: 0 1 @", (1, 1)), ("f: 'f *2 #0 S 0 'z *2 #1 S S 1 #1 'y E h: 0 1 @", (2, 1)),
+    ("f: 'z *2 #0 S 0 'f *2 #0 S 1 #0 @", (2, 0)), ("f: 'f *2 #2 S S S 1 #2 'y 'z @", (1, 0)), ("h: 2 'z S #1 1 @ H", (0, 1)),
+    ("h: 2 'z S #0 1 #2 T 2 'y S #1 P 0 1 @", (0, 1)),
+];
+const STRANGE: [(&str, (usize, usize)); 13] = [
+    ("v: 'z #0 h: 0 1 @", (1, 1)), ("d: 'z *2 #1 'c #0 h: 0 1 @", (1, 1)), ("k: 'c 11 'z #0 h: 0 1 @", (1, 1)), ("f: 'z *2 #0 S 1 #0 @", (1, 0)),
+    ("f: 'f *2 #0 S 1 #0 @ 'z *2 #0 S 0", (2, 0)), ("f: 'f *2 #1 S S 1 #1 'z E h: 0 1 @", (1, 1)),
+    ("f: 'f *2 #1 S S 1 #1 'z E 'g *2 #0 S 1 #0 @", (2, 0)), ("f: 'g *2 #0 S 1 #0 @ 'f *2 #1 S S 1 #1 'z E", (2, 0)),
+    ("h: 1 #2 2 'z S #0 H 0 1 @", (0, 2)), ("h: 1 #2 0 1 @ 2 'z S #0 H", (0, 2)), ("h: 2 'y S #1 1 @ 2 'z S #0 H", (0, 1)),
+    ("h: 1 #2 2 'z S #1 P C 2 'y S #1 1 @ T", (0, 0)), ("f: 'f *2 #0 S 1 #0 16 'z E 5 'z h: 0 1 @", (1, 1)),
+];
+
+fn scopes(cases: &mut Cases) {
+    for (words, counts) in KNOWN {
+        BOUND.iter().chain(&FREE).for_each(|e| cases.is(Ok(counts), &words.replace('@', e)));
+    }
+    for (words, counts) in STRANGE {
+        BOUND.iter().step_by(3).for_each(|e| cases.is(Ok(counts), &words.replace('@', e)));
+        FREE.iter().for_each(|e| cases.no(10, &words.replace('@', e)));
+    }
+    // An unknown Var in each place of an expression
+    places("E", false).iter().chain(&places("E", true)).for_each(|place| cases.no(10, &place.with(1, "5 'z")));
+    // Names that are nearly declared, and words of the script
+    let (long, other) = ("a".repeat(255), "a".repeat(254) + "b");
+    for (name, used) in [("z", "zz"), ("zz", "z"), ("z", "Z"), ("zy", "zx"), ("BB", "Aa"), (&long, &other), (&long, &long[1..])] {
+        cases.no(10, &format!("k: '{name} S h: 0 1 5 '{used}"));
+        cases.no(10, &format!("d: 'D *2 #1 '{name} #0 h: 0 1 19 '{used} E"));
+        cases.no(10, &format!("v: '{name} #0 h: 0 0 '{used} #0"));
+        cases.is(Ok((1, 1)), &format!("k: '{name} S h: 0 1 5 '{name}"));
+    }
+    for word in "true false and or not = => + - Int Bool Array select HORN".split(' ') {
+        cases.no(10, &format!("h: 0 1 5 '{word}"));
+        cases.is(Ok((1, 1)), &format!("k: '{word} S h: 0 1 5 '{word}"));
+    }
+}
+
+/// Names of IsCtors and KVar predicates, and numbers of a KVar's arguments. `n` is a constructor and a KVar.
+fn applied(cases: &mut Cases) {
+    for (expected, words) in [
+        (Ok((0, 1)), "h: 0 1 19 'n E"), (Err(10), "h: 0 1 19 'z E"), (Err(10), "h: 0 1 19 'U E"), (Err(10), "k: 'z S h: 0 1 19 'z E"),
+        (Err(10), "d: 'D *2 #1 'c #1 'z S h: 0 1 19 'z E"), (Err(10), "f: 'z *2 #0 S 0 h: 0 1 19 'z E"), (Err(10), "h: 0 1 19 'k E"),
+        (Err(10), "h: 0 1 16 'z E 19 'z E"), (Err(10), "h: 0 1 20 0 #1 'z S 19 'z E"), (Err(10), "f: 'f *2 #1 S S 1 #1 'z 19 'z E"),
+        (Ok((1, 0)), "f: 'f *2 #0 S 1 #0 19 'n E"),
+        (Ok((0, 1)), "h: X 0 1 19 'n 5 'x"), (Ok((0, 1)), "h: 0 1 16 'n E 19 'n 5 'n"),
+        (Ok((0, 1)), "h: 0 0 'n #0"), (Err(10), "h: 0 0 'z #0"), (Err(10), "h: 0 0 'U #0"), (Err(10), "k: 'z S h: 0 0 'z #0"),
+        (Err(10), "f: 'z *2 #0 S 0 h: 2 'x S #1 0 'z #0 C"), (Err(10), "d: 'D *2 #1 'z #0 h: 0 0 'z #0"), (Err(10), "h: 0 0 'z #2 E E"),
+        (Err(10), "h: 1 #2 T 2 'x S #2 P 0 'z #0 T"), (Err(10), "h: 0 0 'l #2 E 5 'z"), (Err(10), "h: 0 0 'l #3 E E 5 'z"),
+        (Ok((0, 1)), "h: 0 0 'l #2 E E"), (Err(11), "h: 0 0 'l #1 E"), (Err(11), "h: 0 0 'l #0"), (Err(11), "h: 0 0 'l #3 E E E"),
+        (Err(11), "h: 0 0 'k #1 E"), (Err(11), "h: 2 'x S #2 P 0 'k #1 5 'x C"), (Err(11), "h: 2 'x S #1 0 'l #0 T"),
+        (Err(11), "h: 1 #3 H T 0 0 'n #1 E"),
+        (Ok((2, 1)), "v: 'z #1 S 'z #2 S S h: 0 0 'z #1 E"), (Err(11), "v: 'z #1 S 'z #2 S S h: 0 0 'z #2 E E"),
+        (Ok((2, 1)), "v: 'z #0 'z #1 S h: 0 0 'z #0"), (Err(11), "v: 'z #0 'z #1 S h: 0 0 'z #1 E"), (Ok((1, 1)), "v: 'l #0 h: 0 0 'l #2 E E"),
+        (Err(11), "v: 'l #0 h: 0 0 'l #0"), (Err(10), "h: 1 #2 0 0 'k #1 E 0 0 'z #0"), (Err(10), "h: 1 #2 0 0 'z #0 0 0 'k #1 E"),
+    ] {
+        cases.is(expected, words);
+    }
+    for (sorts, args) in [(255, 255), (256, 256), (256, 0), (0, 256), (257, 1), (1, 257), (65_535, 0)] {
+        let expected = if sorts == args { Ok((1, 1)) } else { Err(if sorts > 60_000 { 2 } else { 11 }) };
+        cases.is(expected, &format!("v: 'z #{sorts} {} h: 0 0 'z #{args} {}", "S ".repeat(sorts.min(300)), "E ".repeat(args)));
+    }
+}
 /// Two faults in one file, in both orders of place wherever both can be had: expressions stand behind all datatypes and ForAlls behind all else;
 /// the place of 15 is the ForAll or the declaration.
 fn pairs(cases: &mut Cases) {
     let front = [(4, "c: #1 10"), (5, "d: 'D *2 #0"), (12, "k: 'c 5 *4"), (13, "f: 'g *2 #0 S 1 #0 18 38"), (14, "f: 'g *2 #0 S 1 #0 6"),
-        (6, WRONG_ARGUMENTS)];
-    let behind = [(4, "h: 0 0 'let #0"), (12, "h: 2 'x 5 *4 #0 C"), (13, "h: 0 1 18 45"), (14, "h: 0 1 6"), (7, "h: X X C"),
-        (15, "v: 'x #0 h: X C"), (6, WRONG_ARGUMENTS)];
+        (6, WRONG_ARGUMENTS), (10, "f: 'g *2 #0 S 1 #0 5 'z")];
+    let behind = [(4, "h: 0 1 5 'let"), (12, "h: 2 'x 5 *4 #0 C"), (13, "h: 0 1 18 45"), (14, "h: 0 1 6"), (7, "h: X X C"),
+        (15, "v: 'x #0 h: X C"), (6, WRONG_ARGUMENTS), (10, "h: 0 1 5 'z"), (11, "h: 0 0 'k #1 E")];
     let apart = front.iter().flat_map(|a| behind.iter().map(move |b| (a.0, b.0, format!("{} {}", a.1, b.1))));
     let beside = [
         (4, 5, "c: #1 10 d: 'D *2 #0"), (4, 5, "d: 'as *2 #1 'a #0 'D *2 #0"), (12, 5, "d: 'A *2 #1 'a #1 'f 5 *4 'D *2 #0"),
         (7, 4, "h: X X 0 1 5 'let"), (7, 12, "h: X 2 'x 4 0 #0 C"), (7, 13, "h: X X 0 1 18 38"), (7, 14, "h: X X 0 1 6"),
         (15, 4, "k: 'x S h: X 0 1 5 'let"), (15, 5, "d: 'A *2 #1 'x #0 'D *2 #0 h: X C"), (15, 12, "k: 'x S h: X 2 'y 4 0 #0 C"),
         (15, 13, "k: 'x S h: X 0 1 18 38"), (15, 14, "k: 'x S h: X 0 1 6"), (15, 6, "f: 'x *2 #0 S 0 'f *2 #1 S S 1 #0 E h: X C"),
-        (15, 7, "k: 'x S h: X Y Y C"), (7, 15, "k: 'x S h: Y Y X C"),
+        (15, 7, "k: 'x S h: X Y Y C"), (7, 15, "k: 'x S h: Y Y X C"), (7, 10, "h: X X 0 1 5 'z"), (10, 7, "h: 1 #2 0 1 5 'z X X C"),
+        (15, 10, "k: 'x S h: X 0 1 5 'z"), (10, 15, "k: 'x S h: 1 #2 0 1 5 'z X C"), (10, 12, "h: 1 #2 0 1 5 'z 2 'x 4 0 #0 C"),
+        (10, 13, "h: 0 1 13 #2 5 'z 18 38"), (10, 14, "h: 0 1 13 #2 5 'z 6"), (10, 4, "h: 0 1 13 #2 5 'z 5 'let"),
+        (11, 4, "h: 1 #2 0 0 'k #1 E 0 1 5 'let"), (11, 12, "h: 1 #2 0 0 'k #1 E 2 'x 4 0 #0 C"), (11, 13, "h: 0 0 'k #1 18 38"),
+        (11, 14, "h: 0 0 'k #1 6"), (7, 11, "h: X X 0 0 'k #1 E"), (11, 7, "h: 1 #2 0 0 'k #1 E X X C"), (15, 11, "k: 'x S h: X 0 0 'k #1 E"),
+        (11, 15, "k: 'x S h: 1 #2 0 0 'k #1 E X C"), (10, 11, "h: 1 #2 0 1 5 'z 0 0 'k #1 E"), (11, 10, "h: 1 #2 0 0 'k #1 E 0 1 5 'z"),
+        (11, 10, "h: 0 0 'l #3 E 5 'z E"),
     ];
     for (a, b, words) in apart.chain(beside.map(|(a, b, words)| (a, b, words.to_string()))) {
         cases.no(*JUDGED.iter().find(|refusal| [a, b].contains(refusal)).expect("judged"), &words);
@@ -752,17 +926,29 @@ fn cuts(cases: &mut Cases) {
     }
 }
 
-/// Makes pieces by chance; one in three of the kinds in `spoil` is made faulty.
-struct Maker { chance: Chance, spoil: &'static str, heads: usize }
+/// Makes pieces by chance; one in three of the kinds in `spoil` is made faulty. `known` are the names that a Var may have.
+struct Maker { chance: Chance, spoil: &'static str, heads: usize, known: Vec<String> }
 
 impl Maker {
+    /// A name in words.
+    fn name(&mut self, letter: &str, spoilt: bool, around: usize) -> String {
+        match letter {
+            "N" if spoilt => "'0".to_string(),
+            "N" => ["'x", "'k0", "'Cons", "'<=>", "'b0"][self.chance.below(5)].to_string(),
+            "M" if spoilt => "'b0".to_string(),
+            "M" => ["'x", "'k0", "'Cons", "'<=>"][self.chance.below(4)].to_string(),
+            "B" => format!("'b{}", if spoilt { 0 } else { around }),
+            "V" if !spoilt => self.known[self.chance.below(self.known.len())].clone(),
+            "V" => ["'x", "'k0", "'<=>", "'k", "'U", "'true"][self.chance.below(6)].to_string(),
+            _ => if spoilt { "'U" } else { "'n" }.to_string(),
+        }
+    }
+
     /// A piece in words, at most `depth` deep in its kind, under as many ForAlls as `around` says.
     fn piece(&mut self, letter: &str, depth: usize, around: usize) -> String {
         let spoilt = self.spoil.contains(letter) && self.chance.below(3) == 0;
         match letter {
-            "N" => return if spoilt { "'0" } else { ["'x", "'k0", "'Cons", "'<=>", "'b0"][self.chance.below(5)] }.to_string(),
-            "M" => return if spoilt { "'b0" } else { ["'x", "'k0", "'Cons", "'<=>"][self.chance.below(4)] }.to_string(),
-            "B" => return format!("'b{}", if spoilt { 0 } else { around }),
+            "N" | "M" | "B" | "V" | "W" | "K" => return self.name(letter, spoilt, around),
             "S" | "E" | "P" | "C" | "c" | "d" | "k" | "f" | "v" => {}
             _ => return letter.to_string(),
         }
@@ -770,10 +956,25 @@ impl Maker {
         let fits = |form: &&str| if form.contains(letter) { depth > 0 } else { depth < 3 || letter != "C" };
         let forms: Vec<&str> = if spoilt { faulty } else { sound }.iter().copied().filter(fits).collect();
         let form = forms[self.chance.below(forms.len())];
-        let inside = |word: &str| around + (word == "C" && form.contains('B')) as usize;
-        let words: Vec<String> = form.split(' ').map(|word| self.piece(word, depth.saturating_sub(1), inside(word))).collect();
+        let words = self.words(form, depth.saturating_sub(1), around);
         self.heads += (form == "0 P" && words[1] != "1 1 1") as usize;
         words.join(" ")
+    }
+
+    /// The words of a form. Its names are known from the next piece on, that of a Let behind its first operand.
+    fn words(&mut self, form: &str, depth: usize, around: usize) -> Vec<String> {
+        let (outer, mut made) = (self.known.len(), Vec::new());
+        for word in form.split(' ') {
+            let piece = self.piece(word, depth, around + (word == "C" && form.contains('B')) as usize);
+            made.push(piece);
+            match word {
+                "N" | "B" | "'q" if form != "16 N E E" => self.known.extend(made.last().cloned()),
+                "E" if form == "16 N E E" && self.known.len() == outer => self.known.push(made[1].clone()),
+                _ => {}
+            }
+        }
+        self.known.truncate(outer);
+        made
     }
 
     /// A file's sections, its declarations and heads.
@@ -781,13 +982,15 @@ impl Maker {
         let items = ["c", "d", "k", "f", "v"].map(|kind| (0..self.chance.below(3)).map(|_| self.piece(kind, 3, 0)).collect::<Vec<_>>());
         self.heads = 0;
         let constraint = self.piece("C", 4, 0);
-        let sections = items.iter().map(|items| bytes(&items.join(" "))).chain([bytes(&constraint)]).collect();
-        (sections, (items[1..].iter().map(Vec::len).sum(), self.heads))
+        let named = |(letter, items): (char, &Vec<String>)| format!("{letter}: {} ", items.join(" "));
+        let words: String = "cdkfv".chars().zip(&items).map(named).collect();
+        let declarations = items[1..].iter().map(Vec::len).sum::<usize>();
+        (closed(&format!("{words} h: {constraint}")), (declarations + MANY_DECLARED, self.heads))
     }
 }
 
 fn by_chance(cases: &mut Cases) {
-    let mut maker = Maker { chance: Chance::new(SEED), spoil: "", heads: 0 };
+    let mut maker = Maker { chance: Chance::new(SEED), spoil: "", heads: 0, known: vec!["'n".to_string()] };
     let mut made = Vec::new();
     for _ in 0..120 {
         let (sections, counts) = maker.task();
@@ -809,7 +1012,7 @@ fn by_chance(cases: &mut Cases) {
         let _ = cases.answer(&file);
     }
     for spoil in ["c", "d", "f", "B", "N", "S", "E", "P", "fB", "fB", "fE", "NB", "dkvSEB", "cdkfvNSEPB", "M", "M", "MB",
-        "fM", "NM", "SEM", "dkfvMB"].repeat(3) {
+        "fM", "NM", "SEM", "dkfvMB", "V", "V", "W", "K", "VWK", "VB", "VM", "fV", "PV"].repeat(3) {
         maker.spoil = spoil;
         let _ = cases.answer(&joined(&maker.task().0));
     }
@@ -818,7 +1021,9 @@ fn by_chance(cases: &mut Cases) {
 fn main() -> io::Result<()> {
     let directory = env::args().nth(1).expect("the directory to write into");
     let mut cases = Cases::default();
-    [limits, codes, names, faults, clashes, pairs, levels, last_levels, first_met, cuts, by_chance].iter().for_each(|group| group(&mut cases));
+    for group in [limits, codes, names, faults, clashes, scopes, applied, pairs, levels, last_levels, first_met, cuts, by_chance] {
+        group(&mut cases);
+    }
     let (counts, files) = (cases.counts, cases.stdout.lines().count());
     let refused = [1, 2, 3].iter().chain(&JUDGED).map(|refusal| (*refusal, counts[*refusal as usize]));
     eprintln!("{files} files: accepted {}, refused {:?}", counts[0], refused.clone().collect::<Vec<_>>());

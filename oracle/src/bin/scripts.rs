@@ -10,10 +10,11 @@
 //! Those made by chance carry none; they have to be accepted. Those damaged by chance may get any answer.
 use oracle::chance::{Chance, SEED};
 use oracle::check::checked;
+use oracle::draft::{Draft, Plan};
 use oracle::limits::{nested, ACCIDENT, TABLE};
 use oracle::task::{trailer, Answer, LONGEST_FILE, MAP_DEFAULT, REFUSALS, SET_EMPTY, SIGN_EXTEND, THEORY, TRAILER, ZERO_EXTEND};
 use oracle::text::{line, Rendering};
-use oracle::words::{packed, sealed, S};
+use oracle::words::{closed, packed, sealed, S};
 use std::{env, fs, io, path::Path};
 
 const LONGEST_PART: usize = 65_536;
@@ -45,22 +46,34 @@ impl Cases {
     }
 
     fn refused(&mut self, refusal: u8, file: &[u8]) { assert_eq!(self.add(file).err(), Some(refusal), "bytes {file:?}") }
-    fn no(&mut self, refusal: u8, words: &str) { assert_eq!(self.add(&packed(words)).err(), Some(refusal), "{words}") }
+    /// A refused file, with the usual names declared.
+    fn no(&mut self, refusal: u8, words: &str) { assert_eq!(self.add(&closed(words)).err(), Some(refusal), "{words}") }
 
-    /// An accepted file; `expected` are the declarations and assertions, a line for each.
-    fn is(&mut self, expected: &str, words: &str) {
-        let rendering = self.add(&packed(words)).unwrap_or_else(|refusal| panic!("refused {refusal}: {words}"));
+    /// The declarations and assertions of an accepted file, a line for each.
+    fn lines(&mut self, file: &[u8]) -> Vec<String> {
+        let rendering = self.add(file).unwrap_or_else(|refusal| panic!("refused {refusal}: {file:?}"));
         let written: String = (1..rendering.ends.len() - 1).map(|i| rendering.part(i)).collect();
-        let lines: Vec<&str> = written.lines().filter(|line| !line.is_empty()).collect();
+        written.lines().filter(|line| !line.is_empty()).map(str::to_string).collect()
+    }
+
+    /// An accepted file with these lines.
+    fn just(&mut self, expected: &str, words: &str) { assert_eq!(self.lines(&packed(words)).join("\n"), expected, "{words}") }
+
+    /// An accepted file with the usual names declared, and these lines beside those declarations, which come first of their kind.
+    fn is(&mut self, expected: &str, words: &str) {
+        let mut lines = self.lines(&closed(words));
+        for declared in ["(declare-const e Bool)", "(declare-const p Bool)", "(declare-fun k () Bool)"] {
+            lines.remove(lines.iter().position(|line| line == declared).expect("a usual declaration"));
+        }
         assert_eq!(lines.join("\n"), expected, "{words}");
     }
 
     fn all(&mut self, cases: &[(&str, &str)]) { cases.iter().for_each(|(expected, words)| self.is(expected, words)) }
 
-    /// An accepted file with this for its longest part.
-    fn longest(&mut self, length: usize, words: &str) {
-        assert_eq!(self.add(&packed(words)).ok().map(|rendering| rendering.longest()), Some(length));
-    }
+    /// An accepted file with this for its longest part, and with the usual names declared.
+    fn longest(&mut self, length: usize, words: &str) { self.longest_of(length, &closed(words)) }
+
+    fn longest_of(&mut self, length: usize, file: &[u8]) { assert_eq!(self.add(file).ok().map(|rendering| rendering.longest()), Some(length)) }
 }
 
 const S_SCRIPT: &str = "\
@@ -82,14 +95,16 @@ fn table(cases: &mut Cases) {
     let rendering = cases.add(&s).ok().unwrap();
     assert_eq!((&rendering.script[..], rendering.ends.len(), rendering.assertions, rendering.script.len()), (S_SCRIPT, 7, 2, 214));
     assert_eq!(rendering.part(5), "(assert (forall ((x Int)(y Int)) (=> (and (>= x 0) (k0 y) (not (>= y n))) false)))\n");
-    cases.all(&TABLE.map(|(_, expected, words)| (expected, words)));
+    TABLE.iter().for_each(|(_, expected, words)| cases.just(expected, words));
     cases.refused(1, &[0; 27]);
     cases.refused(2, &[&[0; 24], &b"HORN"[..]].concat());
 }
 
 fn comments(cases: &mut Cases) {
     let long = "c".repeat(300);
-    let rests = [("h: 0 K", "\n(assert (=> true k))\n"), ("k: 'c 0", "(declare-const c Int)\n\n"), ("", "\n")];
+    let rests = [
+        ("v: 'k #0 h: 0 K", "(declare-fun k () Bool)\n\n(assert (=> true k))\n"), ("k: 'c 0", "(declare-const c Int)\n\n"), ("", "\n"),
+    ];
     for (i, (lines, words)) in [
         ("", ""), (";; \n\n", "#0"), (";; one\n\n", "\"one"), (";; \n;; \n;; \n\n", "#0 #0 #0"),
         (";; a\n;; \n;; ;;(check-sat)\n;; |\"~\n\n", "\"a #0 \";;(check-sat) \"|\"~"), (";;   (a\n\n", "#4 32 32 40 97"),
@@ -118,7 +133,7 @@ const SORTS: [(&str, &str); 19] = [
     ("Int", "11 'Colors #0"), ("Int", "11 'nil #2 1 11 'Color #0"),
 ];
 
-/// Expressions, over those datatypes; `e` is a variable.
+/// Expressions, over those datatypes; `e` is a constant, and so is `true`; `f` is a function.
 const EXPRS: [(&str, &str); 44] = [
     ("0", "0 *16"), ("340282366920938463463374607431768211455", "0 #65535 #65535 #65535 #65535 #65535 #65535 #65535 #65535"),
     ("false", "1 0"), ("7", "2 7 *3"), ("\"\"", "3 #0"), ("\"(;|)\"", "3 \"(;|)"), ("(_ bv5 8)", "4 5 *15 8 *3"), ("true", "5 'true"),
@@ -157,7 +172,27 @@ const DECLARATIONS: &[(&str, &str)] = &[
     ("(declare-const xx Int)\n(declare-const X Int)\n(assert (forall ((x Int)) (=> true k)))", "k: 'xx 0 'X 0 h: X 0 K"),
     ("(declare-const c Int)\n(assert (forall ((x Int)) (=> (not (let ((c x)) (exists ((c Int)) c))) false)))",
         "k: 'c 0 h: X 0 1 16 'c 5 'x 20 0 #1 'c 0 5 'c"),
+    // KVars with arguments, one named `true`, and one with a string
+    ("(declare-fun k1 (Bool) Bool)\n(assert (=> true (k1 e)))", "v: 'k1 #1 1 h: 0 0 'k1 #1 E"),
+    ("(declare-fun k2 (Int Bool) Bool)\n(declare-fun k3 (Bool Int Bool) Bool)\n\
+        (assert (forall ((x Int)) (=> (k2 x e) (k3 e (+ x 1) false))))",
+        "v: 'k2 #2 0 1 'k3 #3 1 0 1 h: 2 'x S #1 0 'k2 #2 5 'x E 0 0 'k3 #3 E 9 0 5 'x 0 1 *15 1 0"),
+    ("(declare-fun true () Bool)\n(assert (=> true true))", "v: 'true #0 h: 0 0 'true #0"),
+    ("(declare-fun s (String) Bool)\n(assert (forall ((x Int)) (=> \"\"\")(check-sat)(\"\"\" (s \"\"\"\"))))",
+        "v: 's #1 3 h: 2 'x S #1 1 3 \"\")(check-sat)(\" 0 0 's #1 3 \"\""),
+    // Of two KVars with one name the first counts
+    ("(declare-fun a (Int) Bool)\n(declare-fun a (Int Int) Bool)\n(assert (=> true (a e)))", "v: 'a #1 0 'a #2 0 0 h: 0 0 'a #1 E"),
+    // Names in their scopes: a function before, an argument, a Let in a Let, a Quantifier's, a ForAll's, and those of a datatype
+    ("(declare-fun f () Int)\n(define-fun g ((x Int)) Int (+ x f))\n(assert (=> (not (g f)) false))",
+        "f: 'f #0 #0 0 0 'g #0 #1 0 0 1 #1 'x 9 0 5 'x 5 'f h: 0 1 17 0 5 'g #1 5 'f"),
+    ("(declare-datatypes ((D 0)) (((c (f Int)) (d))))\n(assert (forall ((x D)) (=> (and ((_ is c) x) (not (= (f x) (f d)))) false)))",
+        "d: 'D #0 #2 'c #1 'f 0 'd #0 h: 2 'x 11 'D #0 #1 1 19 'c 5 'x 0 1 10 0 17 0 5 'f #1 5 'x 17 0 5 'f #1 5 'd"),
+    ("(declare-fun h () Int)\n(declare-fun h () Int)\n(assert (=> (not h) false))", "f: 'h #0 #0 0 0 'h #0 #0 0 0 h: 0 1 5 'h"),
 ];
+
+/// What the expressions need beside the usual names, and its lines.
+const OTHER_NAMES: &str = "k: 'true 1 f: 'f #0 #0 0 0";
+const OTHER_NAMES_TEXT: &str = "(declare-const true Bool)\n(declare-fun f () Int)";
 
 fn declarations(cases: &mut Cases) {
     cases.is(DATATYPES_TEXT, DATATYPES);
@@ -173,13 +208,16 @@ fn declarations(cases: &mut Cases) {
     let around: String = SORTS.iter().enumerate().map(|(i, (_, words))| format!("2 'x{i} {words} #0 ")).collect();
     let binders: String = SORTS.iter().enumerate().map(|(i, (text, _))| format!("(x{i} {text})")).collect();
     cases.is(&format!("{DATATYPES_TEXT}\n(assert (forall ({binders}) (=> true k)))"), &format!("{DATATYPES} h: {around} 0 K"));
+    let (declared, declared_text) = (format!("{DATATYPES} {OTHER_NAMES}"), format!("{DATATYPES_TEXT}\n{OTHER_NAMES_TEXT}"));
     let joined = |form: &str, by: &str| EXPRS.map(|(text, words)| form.replace('@', text).replace('%', words)).join(by);
-    cases.is(&format!("{DATATYPES_TEXT}\n{}", joined("(assert (=> (not @) false))", "\n")),
-        &format!("{DATATYPES} h: 1 #44 {}", joined("0 1 %", " ")));
-    cases.is(&format!("{DATATYPES_TEXT}\n(assert (forall ((x Int)) (=> (and {} (not e)) false)))", joined("@", " ")),
-        &format!("{DATATYPES} h: 2 'x 0 #44 {} 0 1 E", joined("1 %", " ")));
-    cases.is(&format!("{DATATYPES_TEXT}\n(assert (forall ((x Int)) (=> (k {0}) (k {0}))))", joined("@", " ")),
-        &format!("{DATATYPES} h: 2 'x 0 #1 0 'k #44 {0} 0 0 'k #44 {0}", joined("%", " ")));
+    cases.is(&format!("{declared_text}\n{}", joined("(assert (=> (not @) false))", "\n")),
+        &format!("{declared} h: 1 #44 {}", joined("0 1 %", " ")));
+    cases.is(&format!("{declared_text}\n(assert (forall ((x Int)) (=> (and {} (not e)) false)))", joined("@", " ")),
+        &format!("{declared} h: 2 'x 0 #44 {} 0 1 E", joined("1 %", " ")));
+    let (sorts, text) = ("0 ".repeat(44), "Int ".repeat(44));
+    let (kvar, args) = (format!("(declare-fun v ({}) Bool)", text.trim_end()), joined("@", " "));
+    cases.is(&format!("{declared_text}\n{kvar}\n(assert (forall ((x Int)) (=> (v {args}) (v {args}))))"),
+        &format!("{declared} v: 'v #44 {sorts} h: 2 'x 0 #1 0 'v #44 {0} 0 0 'v #44 {0}", joined("%", " ")));
     let functions: Vec<usize> = (0..48).filter(|code| ![ZERO_EXTEND, SIGN_EXTEND, SET_EMPTY, MAP_DEFAULT].contains(code)).collect();
     cases.is(&functions.iter().map(|code| format!("(assert (=> (not {}) false))", THEORY[*code])).collect::<Vec<_>>().join("\n"),
         &format!("h: 1 #44 {}", functions.iter().map(|code| format!("0 1 18 {code} ")).collect::<String>()));
@@ -205,7 +243,7 @@ fn nested_assertions(cases: &mut Cases) {
     }
 }
 
-/// Assertions, and files that have these and no declaration. `xy: c` stands for `(forall ((x Int)(y Int)) c)`.
+/// Assertions, and files that have these and no declaration but the usual ones. `xy: c` stands for `(forall ((x Int)(y Int)) c)`.
 const ASSERTIONS: &[(&str, &str)] = &[
     // What stands in a Conj: nothing, Conjs, heads, heads literally true
     ("", "h: C"), ("", "h: 1 #2 C 1 #1 C"), ("", "h: 1 #3 0 T 0 T 0 T"), ("(=> true k)", "h: 1 #1 0 K"),
@@ -228,21 +266,18 @@ const ASSERTIONS: &[(&str, &str)] = &[
     ("xyz: (=> (and p k) k)", "h: 2 'x S #1 P 2 'y S #1 T 2 'z S #1 K 0 K"), ("x: (=> true k)", "h: 2 'x S #1 1 13 #0 0 K"),
     ("x: (=> false k)", "h: 2 'x S #1 1 14 #0 0 K"), ("x: (=> (and true (not e)) false)", "h: 2 'x S #1 1 13 #0 0 1 E"),
     ("x: (=> (and true false (not true)) false)", "h: 2 'x S #3 1 13 #0 T 1 14 #0 0 1 13 #0"),
-    ("x: (=> (and true true) k)", "h: 2 'x S #2 1 5 'true 1 17 0 1 1 #0 0 K"), ("x: (=> (and e) k)", "h: 2 'x S #1 1 13 #1 E 0 K"),
+    ("(forall ((true Int)) (=> (and true true) k))", "h: 2 'true S #2 1 5 'true 1 17 0 1 1 #0 0 K"),
+    ("x: (=> (and e) k)", "h: 2 'x S #1 1 13 #1 E 0 K"),
     ("x: (=> (and e e) k)", "h: 2 'x S #1 1 13 #2 E E 0 K"), ("x: (=> (and e e) k)", "h: 2 'x S #2 1 E 1 E 0 K"),
     ("x: (=> (and (and e e) (not (or e))) false)", "h: 2 'x S #1 1 13 #2 E E 0 1 14 #1 E"),
-    // Heads that only look true, and KVars with arguments
-    ("(=> (not true) false)", "h: 0 1 5 'true"), ("(=> true true)", "h: 0 0 'true #0"),
-    ("(=> (not (and true)) false)", "h: 0 1 13 #1 1 1"), ("(=> (not true) false)", "h: 0 1 17 0 1 1 #0"),
-    ("(=> (not (not false)) false)", "h: 0 1 8 1 0"), ("(=> true (k e))", "h: 0 0 'k #1 E"),
-    ("x: (=> (k x e) (k0 e (+ x 1) false))", "h: 2 'x S #1 0 'k #2 5 'x E 0 0 'k0 #3 E 9 0 5 'x 0 1 *15 1 0"),
-    // Quotation marks in strings: alone, two, between, at both ends, and around what would be a command
+    // Heads that only look true
+    ("(forall ((true Int)) (=> (not true) false))", "h: 2 'true 0 #0 0 1 5 'true"), ("(=> (not (and true)) false)", "h: 0 1 13 #1 1 1"),
+    ("(=> (not true) false)", "h: 0 1 17 0 1 1 #0"), ("(=> (not (not false)) false)", "h: 0 1 8 1 0"),
+    // Quotation marks in strings: alone, two, between, at both ends
     ("(=> (not \"\"\"\") false)", "h: 0 1 3 \"\""), ("(=> (not \"\"\"\"\"\") false)", "h: 0 1 3 \"\"\""),
     ("(=> (not (= \"a\"\"b\" \"\"\"a\"\"\")) false)", "h: 0 1 10 0 3 \"a\"b 3 \"\"a\""),
-    ("x: (=> \"\"\")(check-sat)(\"\"\" (k \"\"\"\"))", "h: 2 'x S #1 1 3 \"\")(check-sat)(\" 0 0 'k #1 3 \"\""),
-    // Names: an expression may bind a ForAll's, a ForAll may be called as a KVar that is not declared
+    // Names: an expression may bind a ForAll's
     ("x: (=> (not (exists ((x Bool)) (let ((x x)) x))) false)", "h: X 0 1 20 0 #1 'x 1 16 'x 5 'x 5 'x"),
-    ("xk: (=> true k)", "h: X 2 'k 0 #0 0 K"),
     ("(forall ((true Int)(false Int)(X Int)(x Int)) (=> true k))", "h: 2 'true 0 #0 2 'false 0 #0 2 'X 0 #0 X 0 K"),
 ];
 
@@ -257,9 +292,9 @@ fn assertions(cases: &mut Cases) {
         });
         cases.is(&lines.collect::<Vec<_>>().join("\n"), words);
     }
-    let (long, other) = ("a".repeat(255), "a".repeat(254) + "b");
-    cases.is(&format!("(assert (forall (({long} Int)({other} Int)) (=> {other} ({long} {other}))))"),
-        &format!("h: 2 '{long} S #0 2 '{other} S #1 1 5 '{other} 0 0 '{long} #1 5 '{other}"));
+    let (long, other, third) = ("a".repeat(255), "a".repeat(254) + "b", "b".to_string() + &"a".repeat(254));
+    cases.is(&format!("(declare-fun {third} (Int) Bool)\n(assert (forall (({long} Int)({other} Int)) (=> {long} ({third} {other}))))"),
+        &format!("v: '{third} #1 0 h: 2 '{long} S #0 2 '{other} S #1 1 5 '{long} 0 0 '{third} #1 5 '{other}"));
     cases.is(&format!("(declare-fun {long} () Bool)\n(assert (forall (({other} Int)) (=> true k)))"),
         &format!("v: '{long} #0 h: 2 '{other} S #0 0 K"));
 }
@@ -283,8 +318,8 @@ fn large(cases: &mut Cases) {
     // 60,000 and 60,001 bytes: heads literally true, and a comment
     let trues = |comment: usize| format!("c: \"{} h: 1 #14000 {}", "c".repeat(comment), "0 T ".repeat(14_000));
     assert_eq!(packed(&trues(3967)).len(), LONGEST_FILE);
-    cases.is("", &trues(3967));
-    cases.no(1, &trues(3968));
+    cases.just("", &trues(3967));
+    cases.refused(1, &packed(&trues(3968)));
 }
 
 /// Parts of 65,536 bytes and above.
@@ -303,9 +338,9 @@ fn lengths(cases: &mut Cases) {
         cases.longest(LONGEST_PART + over, &string(last));
         cases.longest(LONGEST_PART + over, &comments(comment));
         cases.longest(LONGEST_PART + over, &params(10_942, datatype));
-        cases.longest(LONGEST_PART + over, &format!("h: 0 {}", ors(member)));
+        cases.longest(LONGEST_PART + over, &format!("k: '{member} 1 h: 0 {}", ors(member)));
     }
-    cases.longest(119_963, &format!("h: 0 1 3 \"{}", "\"".repeat(59_967)));
+    cases.longest_of(119_963, &packed(&format!("h: 0 1 3 \"{}", "\"".repeat(59_967))));
     cases.longest(447_683, &params(65_535, "N"));
     let two = params(65_535, "N").replace(" h:", " 'M 255 255 #1 'c #0 h:");
     cases.longest(447_683, &two);
@@ -318,9 +353,11 @@ fn lengths(cases: &mut Cases) {
     cases.longest(65_564, &format!("k: 'a 0 v: 'k #9363 {strings} h: 0 K"));
     let guarded: String = (0..180).map(|i| format!("2 '{:a<50}x{i} 4 5 #65535 #65535 #20 {} ", "", "1 18 13 ".repeat(20))).collect();
     cases.longest(67_964, &format!("h: {guarded} 0 K"));
-    cases.longest(LONGEST_PART + 1, &format!("v: 'k #0 h: 1 #3 0 K 0 1 E 2 'x S #1 {} 0 K", ors("abcdef")));
+    cases.longest(LONGEST_PART + 1, &format!("k: 'abcdef 1 v: 'k #0 h: 1 #3 0 K 0 1 E 2 'x S #1 {} 0 K", ors("abcdef")));
     // A guard that would make an assertion too long does nothing where no head is
-    cases.is("(assert (=> true k))", &format!("h: 1 #3 2 'x S #1 {0} 0 T 0 K 2 'x S #1 {0} C", ors("abcdefghijklmnop")));
+    let (name, guard) = ("abcdefghijklmnop", ors("abcdefghijklmnop"));
+    cases.is(&format!("(declare-const {name} Bool)\n(assert (=> true k))"),
+        &format!("k: '{name} 1 h: 1 #3 2 'x S #1 {guard} 0 T 0 K 2 'x S #1 {guard} C"));
 }
 
 fn refusals(cases: &mut Cases) {
@@ -348,6 +385,12 @@ fn refusals(cases: &mut Cases) {
             "k: 'x 0 h: X Y Y 0 K", "k: 'x 0 h: 1 #2 Y Y 0 K X 0 K"]),
         (15, &["k: 'x 0 h: X 0 K", "f: 'x #0 #0 0 0 h: X 0 K", "d: 'D #0 #1 'x #0 h: X 0 K", "d: 'D #0 #1 'c #1 'x 0 h: X 0 K",
             "v: 'x #0 h: X 0 K", "k: 'a 0 'x 0 'b 0 h: 1 #2 0 K Y 1 #2 C X C", "d: 'x #0 #1 'x #0 h: Y X 0 T"]),
+        (10, &["h: 0 1 5 'a", "h: 0 1 17 0 5 'a #1 E", "h: 2 'x 0 #1 1 5 'a C", "h: 0 1 16 'a 5 'a E", "h: 0 1 13 #2 16 'a E 5 'a 5 'a",
+            "h: 0 1 13 #2 20 0 #1 'a 0 5 'a 5 'a", "h: 1 #2 X 0 K 0 1 5 'x", "f: 'f #0 #0 0 1 #0 5 'f", "f: 'f #0 #0 0 1 #0 5 'g 'g #0 #0 0 0",
+            "f: 'f #0 #1 0 0 1 #1 'x E h: 0 1 5 'x", "h: 0 1 5 'k", "d: 'D #0 #1 'c #0 h: 0 1 5 'D", "h: 0 1 5 'true", "h: 0 1 19 'e E",
+            "d: 'D #0 #1 'c #1 'f 0 h: 0 1 19 'f E", "h: 0 0 'e #0", "h: 0 0 'a #1 E", "h: 1 #2 0 0 'k #1 E 0 1 5 'a"]),
+        (11, &["h: 0 0 'k #1 E", "v: 'a #1 0 h: 0 0 'a #0", "v: 'a #2 0 0 h: 2 'x 0 #1 0 'a #3 E E 5 'x 0 T",
+            "v: 'a #1 0 'a #2 0 0 h: 0 0 'a #2 E E", "v: 'k #1 0 h: 0 0 'k #1 E"]),
     ] {
         files.iter().for_each(|words| cases.no(refusal, words));
     }
@@ -357,17 +400,21 @@ fn refusals(cases: &mut Cases) {
     cases.no(14, &format!("h: X X 0 1 {} 6", "8 ".repeat(251)));
     cases.no(15, &format!("k: 'x253 0 h: {}", nested(254, "C")));
     cases.no(15, &format!("v: '{0} #0 h: 2 '{0} 0 #0 0 K", "a".repeat(255)));
+    cases.no(10, &format!("h: {}", nested(253, "0 1 5 'x253")));
+    cases.refused(10, &packed("h: X 2 'k 0 #0 0 K"));
+    cases.refused(10, &packed("h: 0 1 E"));
 }
 
 const DESK: &str = include_str!("../../../docs/REFUSALS.md");
 
 /// The examples of docs/REFUSALS.md for the program: sections by their bytes, which stand there between backquotes under the number.
-const EXAMPLES: [(u8, &[&str]); 11] = [
+const EXAMPLES: [(u8, &[&str]); 16] = [
     (4, &["h: 0 1 5 1 40"]), (5, &["d: 1 68 0 0 0 0"]), (12, &["k: 1 99 4 0"]), (12, &["k: 1 99 5 8 0 0 0"]), (13, &["h: 0 1 18 38"]),
     (13, &["h: 0 1 17 0 18 45 0 0"]), (14, &["h: 0 1 6"]), (6, &["f: 1 102 0 0 0 0 0 1 1 0 1 120 1 1"]),
     (7, &["h: 2 1 120 0 0 0 2 1 120 0 0 0 1 0 0"]),
     (15, &["k: 3 108 105 109 0", "h: 2 1 120 0 1 0 1 10 4 5 1 120 5 3 108 105 109 2 3 108 105 109 0 0 0 0 1 10 3 5 3 108 105 109 5 1 120"]),
-    (9, &["d: 1 100 255 255 1 0 1 99 0 0"]),
+    (10, &["h: 0 1 5 1 97"]), (10, &["h: 0 1 16 1 97 5 1 97 1 1"]), (10, &["k: 1 99 0", "h: 0 1 19 1 99 5 1 99"]), (10, &["h: 0 0 1 107 0 0"]),
+    (11, &["v: 1 107 1 0 0", "h: 0 0 1 107 0 0"]), (9, &["d: 1 100 255 255 1 0 1 99 0 0"]),
 ];
 
 fn examples(cases: &mut Cases) {
@@ -389,59 +436,10 @@ fn examples(cases: &mut Cases) {
 
 // ---- Cases by chance
 
-/// Forms of each kind of piece; capital letters stand for pieces. `N` is a name, `M` one that no ForAll may have, `B` a ForAll's, `U` and `Q`
-/// numbers of 4 and 16 bytes.
-const FORMS: [(&str, &[&str]); 9] = [
-    ("c", &["#0", "\"(ok)", "\"a;|\"~"]),
-    ("d", &["'List #1 #2 'nil #0 'cons #2 'head 6 #0 'tail 11 'List #1 6 #0", "N #0 #1 M #0", "N #2 #2 M #2 M S M S M #1 M S"]),
-    ("k", &["M S"]),
-    ("f", &["M #1 #2 S S S 0", "M #0 #0 S 0", "M #0 #2 S S S 1 #2 N N E", "M #9 #0 S 1 #0 E"]),
-    ("v", &["M #0", "M #1 S", "M #3 S S S"]),
-    ("S", &["0", "1", "2", "3", "4 5 U", "6 #1", "7 S S", "8 #2 S", "9 #0", "9 #1 S", "10 #2 S S", "11 N #0", "11 N #1 S",
-        "11 'List #1 S"]),
-    ("E", &["0 Q", "1 0", "1 1", "2 U", "3 #0", "3 #3 32 40 126", "3 #3 34 97 34", "4 Q U", "5 N", "5 N", "7 E", "8 E", "9 0 E E", "9 3 E E",
-        "10 0 E E", "10 1 E E", "10 5 E E", "11 E E", "12 E E", "13 #0", "13 #1 E", "13 #3 E E E", "14 #0", "14 #2 E E", "15 E E E", "16 N E E",
-        "17 0 E #0", "17 0 E #2 E E", "17 1 S 5 N #0", "17 1 S 5 N #1 E", "17 1 S 18 38 #0", "17 1 S 18 45 #1 E", "18 2", "18 6 7", "18 43",
-        "19 N E", "20 0 #0 E", "20 1 #2 N S N S E"]),
-    ("P", &["0 N #0", "0 N #2 E E", "1 E", "1 E", "1 1 1"]),
-    ("C", &["0 P", "1 #0", "1 #2 C C", "1 #3 C C C", "2 B S #0 C", "2 B S #1 P C", "2 B S #3 P P P C"]),
-];
-
-/// The last is that of a ForAll.
-const NAMES: [&str; 9] = ["'x", "'k0", "'cons", "'nil", "'List", "'Color", "'<=>", "'true", "'b0"];
-
-/// A piece in words, at most `depth` deep in its kind, under as many ForAlls as `around` says.
-fn piece(chance: &mut Chance, letter: &str, depth: usize, around: usize) -> String {
-    let size = match letter { "U" => 4, "Q" => 16, _ => 0 };
-    if size > 0 {
-        let used = chance.below(size + 1);
-        return (0..size).map(|i| format!("{} ", if i < used { chance.below(256) } else { 0 })).collect();
-    }
-    match letter {
-        "N" | "M" => return NAMES[chance.below(NAMES.len() - (letter == "M") as usize)].to_string(),
-        "B" => return format!("'b{around}"),
-        _ => {}
-    }
-    let Some((_, forms)) = FORMS.iter().find(|kind| kind.0 == letter) else { return letter.to_string() };
-    let fits = |form: &&&str| if form.contains(letter) { depth > 0 } else { depth < 4 || letter != "C" };
-    let forms: Vec<&&str> = forms.iter().filter(fits).collect();
-    let form = forms[chance.below(forms.len())];
-    let inside = |word: &str| around + (word == "C" && form.contains('B')) as usize;
-    let below = |word: &str| if word == letter { depth - 1 } else if letter == "C" { 3 } else { depth.min(3) };
-    form.split(' ').map(|word| piece(chance, word, below(word), inside(word)) + " ").collect()
-}
-
-fn task(chance: &mut Chance) -> String {
-    let items = ["c", "d", "k", "f", "v"].map(|kind| {
-        let items: String = (0..chance.below(3)).map(|_| piece(chance, kind, 3, 0)).collect();
-        format!("{kind}: {items}")
-    });
-    format!("{} h: {}", items.join(" "), piece(chance, "C", 6, 0))
-}
-
 fn by_chance(cases: &mut Cases) {
     let mut chance = Chance::new(SEED);
-    let files: Vec<Vec<u8>> = (0..32).map(|_| packed(&task(&mut chance))).collect();
+    let plan = Plan { pieces: 80, items: 2, target: 0, chain: false };
+    let files: Vec<Vec<u8>> = (0..32).map(|_| Draft::new(&mut chance, plan).file()).collect();
     files.iter().for_each(|file| assert!(cases.add(file).is_ok()));
     for mut file in files {
         // One byte changed

@@ -32,13 +32,13 @@ same-length : tie.Need-same-length
 same-length c = search needs
 
 returns-2 : tie.Need-returns-2
-returns-2 c = unsorted _ _ _ _ (c .before .before .before .before .before .before .before .before .before .before .read-name .ensures) _ _ (c .before .before .before .before .before .before .before .before .name .given .1) (c .before .before .before .before .before .before .before .before .before .before .before .before .before .pre) (c .before .before .before .before .before .before .before .before .before .before .before .before .before .args .kind) _ _ _ _ (c .before .before .before .before .before .push .ensures) (c .before .before .check-sort .ensures) (c .enum-told2 .given .1)
+returns-2 c = unsorted _ _ _ _ (c .before .before .before .before .before .before .before .before .before .before .read-name .ensures) _ _ (c .before .before .before .before .before .before .before .before .name .given .1) (c .before .before .before .before .before .before .before .before .before .before .before .before .before .pre) _ (c .before .before .before .before .before .before .before .before .before .before .before .before .before .args .kind) _ _ _ _ (c .before .before .before .before .before .push .ensures) (c .before .before .check-sort .ensures) (c .enum-told2 .given .1)
 
 same-length-2 : tie.Need-same-length-2
 same-length-2 c = search needs
 
 returns-3 : tie.Need-returns-3
-returns-3 c = sorted _ _ _ _ (c .before .before .before .before .before .before .before .before .before .before .before .read-name .ensures) _ _ (c .before .before .before .before .before .before .before .before .before .name .given .1) (c .before .before .before .before .before .before .before .before .before .before .before .before .before .before .pre) (c .before .before .before .before .before .before .before .before .before .before .before .before .before .before .args .kind) _ _ _ _ (c .before .before .before .before .before .before .push .ensures) (c .before .before .before .check-sort .ensures) (c .before .sort .given .1)
+returns-3 c = sorted _ _ _ _ (c .before .before .before .before .before .before .before .before .before .before .before .read-name .ensures) _ _ (c .before .before .before .before .before .before .before .before .before .name .given .1) (c .before .before .before .before .before .before .before .before .before .before .before .before .before .before .pre) _ (c .before .before .before .before .before .before .before .before .before .before .before .before .before .before .args .kind) _ _ _ _ (c .before .before .before .before .before .before .push .ensures) (c .before .before .before .check-sort .ensures) (c .before .sort .given .1)
 
 pub push-binder-spec : {M : Type 1} → statement M
 push-binder-spec =

@@ -32,14 +32,14 @@ returns-2 c = ctor-uncounted _ _ _ _ (c .before .before .before .before .before 
 push-requires : tie.Need-push-requires
 push-requires c κs = c .before .before .before .before .before .before .before .before .before .before .before .pre .chained
 
-push-fields-requires : tie.Need-push-fields-requires
-push-fields-requires c κs = pushed-ready _ _ _ _ _ (c .before .before .before .before .before .before .before .before .before .before .before .before .before .before .before .pre) (c .before .before .before .push .ensures)
+push-binders-requires : tie.Need-push-binders-requires
+push-binders-requires c κs = pushed-ready _ _ _ _ _ (c .before .before .before .before .before .before .before .before .before .before .before .before .before .before .before .pre) (c .before .before .before .push .ensures)
 
 same-length : tie.Need-same-length
-same-length c = c .before .before .push-fields .ensures .words ∙ c .before .before .before .before .before .before .push .ensures .words
+same-length c = c .before .before .push-binders .ensures .words ∙ c .before .before .before .before .before .before .push .ensures .words
 
 returns-3 : tie.Need-returns-3
-returns-3 c = ctor-collected _ _ _ _ (c .before .before .before .before .before .before .before .before .before .before .before .before .before .before .before .read-name .ensures) _ _ (c .before .before .before .before .before .before .before .before .before .before .before .before .before .name .given .1) (c .before .before .before .before .before .before .before .before .before .before .before .before .before .before .before .before .before .before .pre) _ (c .before .before .before .before .before .before .before .before .before .before .before .number-at .ensures) _ _ _ _ _ (c .before .before .before .before .before .before .before .before .before .count .given .1) (c .before .before .before .before .before .before .push .ensures) (c .before .before .push-fields .ensures)
+returns-3 c = ctor-collected _ _ _ _ (c .before .before .before .before .before .before .before .before .before .before .before .before .before .before .before .read-name .ensures) _ _ (c .before .before .before .before .before .before .before .before .before .before .before .before .before .name .given .1) (c .before .before .before .before .before .before .before .before .before .before .before .before .before .before .before .before .before .before .pre) _ (c .before .before .before .before .before .before .before .before .before .before .before .number-at .ensures) _ _ _ _ _ (c .before .before .before .before .before .before .before .before .before .count .given .1) (c .before .before .before .before .before .before .push .ensures) (c .before .before .push-binders .ensures)
 
 pub push-ctor-spec : {M : Type 1} → statement M
 push-ctor-spec =
@@ -54,6 +54,6 @@ push-ctor-spec =
     enum-told-2
     returns-2
     push-requires
-    push-fields-requires
+    push-binders-requires
     same-length
     returns-3)

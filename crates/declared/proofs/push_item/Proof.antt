@@ -1,5 +1,5 @@
 -- `push_item`: the item by its section.
-use Rattle.declared.proofs.Gathering.{comments-none, datatypes-item, constants-item, functions-item, kvars-item}
+use Rattle.declared.proofs.Gathering.{comments-none, datatypes-item, constants-item, functions-none, kvars-none}
 use borrow.Author.Needs.{needs}
 use Rattle.declared.proofs.push_item.Statement.{statement}
 use Rattle.declared.proofs.push_item.Tie as tie
@@ -22,14 +22,8 @@ push-binder-requires c κs = search needs
 enum-told-4 : tie.Need-enum-told-4
 enum-told-4 c = search needs
 
-push-named-requires : tie.Need-push-named-requires
-push-named-requires c κs = search needs
-
 enum-told-5 : tie.Need-enum-told-5
 enum-told-5 c = search needs
-
-push-named-requires-2 : tie.Need-push-named-requires-2
-push-named-requires-2 c κs = search needs
 
 returns : tie.Need-returns
 returns c = comments-none (c .before .before .before .before .args .section) _ _ _ _ (c .enum-told .given .1) (c .before .before .before .before .pre)
@@ -46,17 +40,11 @@ same-length-2 c = search needs
 returns-3 : tie.Need-returns-3
 returns-3 c = constants-item (c .before .before .before .before .before .before .before .before .args .section) _ _ _ _ _ (c .before .before .before .before .enum-told3 .given .1) (c .before .before .push-binder .ensures)
 
-same-length-3 : tie.Need-same-length-3
-same-length-3 c = search needs
-
 returns-4 : tie.Need-returns-4
-returns-4 c = functions-item (c .before .before .before .before .before .before .before .before .args .section) _ _ _ _ _ (c .before .before .before .before .enum-told4 .given .1) (c .before .before .push-named .ensures)
-
-same-length-4 : tie.Need-same-length-4
-same-length-4 c = search needs
+returns-4 c = functions-none (c .before .before .before .before .args .section) _ _ _ _ (c .enum-told4 .given .1) (c .before .before .before .before .pre)
 
 returns-5 : tie.Need-returns-5
-returns-5 c = kvars-item (c .before .before .before .before .before .before .before .before .args .section) _ _ _ _ _ (c .before .before .before .before .enum-told5 .given .1) (c .before .before .push-named2 .ensures)
+returns-5 c = kvars-none (c .before .before .before .before .args .section) _ _ _ _ (c .enum-told5 .given .1) (c .before .before .before .before .pre)
 
 pub push-item-spec : {M : Type 1} → statement M
 push-item-spec =
@@ -68,15 +56,11 @@ push-item-spec =
     enum-told-3
     push-binder-requires
     enum-told-4
-    push-named-requires
     enum-told-5
-    push-named-requires-2
     returns
     same-length
     returns-2
     same-length-2
     returns-3
-    same-length-3
     returns-4
-    same-length-4
     returns-5)

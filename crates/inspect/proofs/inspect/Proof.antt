@@ -1,5 +1,5 @@
--- inspect checks the pieces, declares the names and judges those of the ForAlls.
-use Rattle.inspect.proofs.Naming.{checked, refused-before, checked-inside, checked-words, names-read, names-judged}
+-- inspect checks the pieces and judges the names.
+use Rattle.inspect.proofs.Naming.{checked, refused-before, checked-words, checked-sections, names-answer}
 use borrow.Author.Needs.{needs}
 use Rattle.inspect.proofs.inspect.Statement.{statement}
 use Rattle.inspect.proofs.inspect.Tie as tie
@@ -16,32 +16,17 @@ enum-told c = search needs
 returns : tie.Need-returns
 returns c = refused-before _ _ (c .before .before .check-pieces .ensures) _ (c .before .before .before .before .before .pre) _ (c .enum-told .given .1)
 
-declare-requires : tie.Need-declare-requires
-declare-requires c κs = let k = checked _ _ (c .before .before .before .before .check-pieces .ensures) _ _ _ (c .before .before .sound .given .1) in ((checked-inside _ _ _ _ k, c .before .before .before .before .before .before .before .pre .blank), checked-words _ _ _ _ k _ (c .before .before .before .before .before .before .before .pre))
+check-names-requires : tie.Need-check-names-requires
+check-names-requires c κs = ((checked-sections _ _ _ _ (checked _ _ (c .before .before .before .before .check-pieces .ensures) _ _ _ (c .before .before .sound .given .1)), c .before .before .before .before .before .before .before .pre .blank), checked-words _ _ _ _ (checked _ _ (c .before .before .before .before .check-pieces .ensures) _ _ _ (c .before .before .sound .given .1)) _ (c .before .before .before .before .before .before .before .pre))
 
-check-scope-requires : tie.Need-check-scope-requires
-check-scope-requires c κs = search needs
-
-enum-known-walked : tie.Need-enum-known-walked
-enum-known-walked c = search needs
-
-enum-told-2 : tie.Need-enum-told-2
-enum-told-2 c = search needs
+judge-requires : tie.Need-judge-requires
+judge-requires c κs = search needs
 
 same-length : tie.Need-same-length
 same-length c = search needs
 
 returns-2 : tie.Need-returns-2
-returns-2 c = names-read _ _ _ _ (checked _ _ (c .before .before .before .before .before .before .before .before .before .before .before .check-pieces .ensures) _ _ _ (c .before .before .before .before .before .before .before .before .before .sound .given .1)) _ (c .before .before .before .before .before .before .declare .ensures) _ (c .before .before .check-scope .ensures) _ (c .enum-told2 .given .1)
-
-judge-requires : tie.Need-judge-requires
-judge-requires c κs = search needs
-
-same-length-2 : tie.Need-same-length-2
-same-length-2 c = search needs
-
-returns-3 : tie.Need-returns-3
-returns-3 c = names-judged _ _ _ _ (checked _ _ (c .before .before .before .before .before .before .before .before .before .before .before .before .before .check-pieces .ensures) _ _ _ (c .before .before .before .before .before .before .before .before .before .before .before .sound .given .1)) _ (c .before .before .before .before .before .before .before .before .declare .ensures) _ (c .before .before .before .before .check-scope .ensures) _ _ _ (c .before .before .walked .given .1) (c .judge .ensures)
+returns-2 c = names-answer _ _ _ _ (checked _ _ (c .before .before .before .before .before .before .before .before .check-pieces .ensures) _ _ _ (c .before .before .before .before .before .before .sound .given .1)) _ _ _ (c .before .before .before .check-names .ensures) (c .judge .ensures)
 
 pub inspect-spec : {M : Type 1} → statement M
 inspect-spec =
@@ -51,12 +36,7 @@ inspect-spec =
     enum-known-sound
     enum-told
     returns
-    declare-requires
-    check-scope-requires
-    enum-known-walked
-    enum-told-2
-    same-length
-    returns-2
+    check-names-requires
     judge-requires
-    same-length-2
-    returns-3)
+    same-length
+    returns-2)

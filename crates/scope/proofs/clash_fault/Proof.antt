@@ -1,6 +1,6 @@
 -- clash_fault looks the name up.
 use mathlib.Core.Path.{refl}
-use Rattle.scope.proofs.Scopes.{name-clashes, name-free}
+use Rattle.scope.proofs.Constraints.{name-clashes, name-free}
 use borrow.Author.Needs.{needs}
 use Rattle.scope.proofs.clash_fault.Statement.{statement}
 use Rattle.scope.proofs.clash_fault.Tie as tie

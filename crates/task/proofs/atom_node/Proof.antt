@@ -1,6 +1,11 @@
 -- atom_node gives the relation, or refuses.
 use Rattle.task.specs.Decode.{exprForms}
-use Rattle.task.specs.Node.{ExprForm, exprOf}
+use Rattle.task.specs.Node.{exprOf}
+use mathlib.Core.Path.{ap, _∙_}
+use Rattle.task.specs.Decode.{coded, binRels}
+use Rattle.task.specs.Node.{binRelOf}
+use Rattle.task.proofs.Covering.{forward}
+use Rattle.task.proofs.Pieces.{rels}
 use borrow.Author.Needs.{needs}
 use Rattle.task.proofs.atom_node.Statement.{statement}
 use Rattle.task.proofs.atom_node.Tie as tie
@@ -15,12 +20,12 @@ enum-told : tie.Need-enum-told
 enum-told c = search needs
 
 returns : tie.Need-returns
-unfolding ExprForm exprForms exprOf
-returns c = λ l expr. rw (c .before .before .read-bin-rel .ensures, c .enum-told .given .1)
+unfolding exprForms exprOf
+returns c = record { is = λ l expr. rw (c .before .before .read-bin-rel .ensures, c .enum-told .given .1); behind = tt }
 
 returns-2 : tie.Need-returns-2
-unfolding ExprForm exprForms exprOf
-returns-2 c = λ l expr. rw (c .before .before .before .read-bin-rel .ensures, c .before .rel .given .1)
+unfolding exprForms exprOf
+returns-2 c = record { is = λ l expr. rw (c .before .before .before .read-bin-rel .ensures, c .before .rel .given .1); behind = forward (coded binRels) rels _ _ _ _ (c .before .before .before .read-bin-rel .ensures ∙ ap binRelOf (c .before .rel .given .1)) }
 
 pub atom-node-spec : {M : Type 1} → statement M
 atom-node-spec =

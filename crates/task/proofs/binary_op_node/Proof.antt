@@ -1,6 +1,11 @@
 -- binary_op_node gives the operation, or refuses.
 use Rattle.task.specs.Decode.{exprForms}
-use Rattle.task.specs.Node.{ExprForm, exprOf}
+use Rattle.task.specs.Node.{exprOf}
+use mathlib.Core.Path.{ap, _∙_}
+use Rattle.task.specs.Decode.{coded, binOps}
+use Rattle.task.specs.Node.{binOpOf}
+use Rattle.task.proofs.Covering.{forward}
+use Rattle.task.proofs.Pieces.{ops}
 use borrow.Author.Needs.{needs}
 use Rattle.task.proofs.binary_op_node.Statement.{statement}
 use Rattle.task.proofs.binary_op_node.Tie as tie
@@ -15,12 +20,12 @@ enum-told : tie.Need-enum-told
 enum-told c = search needs
 
 returns : tie.Need-returns
-unfolding ExprForm exprForms exprOf
-returns c = λ l expr. rw (c .before .before .read-bin-op .ensures, c .enum-told .given .1)
+unfolding exprForms exprOf
+returns c = record { is = λ l expr. rw (c .before .before .read-bin-op .ensures, c .enum-told .given .1); behind = tt }
 
 returns-2 : tie.Need-returns-2
-unfolding ExprForm exprForms exprOf
-returns-2 c = λ l expr. rw (c .before .before .before .read-bin-op .ensures, c .before .op .given .1)
+unfolding exprForms exprOf
+returns-2 c = record { is = λ l expr. rw (c .before .before .before .read-bin-op .ensures, c .before .op .given .1); behind = forward (coded binOps) ops _ _ _ _ (c .before .before .before .read-bin-op .ensures ∙ ap binOpOf (c .before .op .given .1)) }
 
 pub binary-op-node-spec : {M : Type 1} → statement M
 binary-op-node-spec =

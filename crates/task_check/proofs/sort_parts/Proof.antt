@@ -91,7 +91,7 @@ returns-12 : tie.Need-returns-12
 returns-12 c = rw (c .before .before .before .node12 .given .1, c .lower .ensures, c .before .before .before .before .before .width-fault .ensures, c .before .name-fault .ensures)
 
 returns-13 : tie.Need-returns-13
-returns-13 c = search needs
+returns-13 c = rw (c .enum-told .given .1)
 
 pub sort-parts-spec : {M : Type 1} → statement M
 sort-parts-spec =
