@@ -18,7 +18,7 @@ use Rattle.task.specs.declared.ConstraintNode.the-variants as constraint-node
 use Rattle.task.specs.Ast.{Sort, Pred, Constraint, Constraints}
 use Rattle.task.specs.Decode.{Res, got, refuse, bind, number, many, name, decSort, decPred, decConstraint}
 use Rattle.task.specs.Fault.{lower, unless, each, sortFault}
-use Rattle.task.specs.Scope.{predScope, constraintNames, constraintsNames}
+use Rattle.task.specs.Scope.{predScope, constraintNames}
 use Rattle.task.specs.Node.{numberOf, bytesOf, spanOf, constraintOf, ConstraintAt}
 use Rattle.task.proofs.Judging.{sound-lower}
 use Rattle.task.proofs.Covering.{forward, covers-many, covers-less, covers-number}

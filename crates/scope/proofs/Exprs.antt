@@ -20,33 +20,33 @@ use Rattle.task.specs.declared.ExprNode.{ExprNode}
 use Rattle.task.specs.declared.ExprNode.the-variants as expr-node
 use Rattle.task.specs.Ast.{Sort, Binder, Constant, Expr, Exprs}
 use Rattle.task.specs.Covers.{Covers}
-use Rattle.task.specs.Decode.{Res, got, bind, give, _▹_, number, many, counted, name, binder, given, decExpr}
+use Rattle.task.specs.Decode.{got, give, _▹_, number, many, counted, name, binder, given, decExpr}
 use Rattle.task.specs.Fault.{lower, each, binderFault, givenFault}
-use Rattle.task.specs.Scope.{knownFault, exprScope, exprsScope}
+use Rattle.task.specs.Scope.{knownFault, exprScope}
 use Rattle.task.specs.Node.{numberOf, bytesOf, spanOf, exprOf, ExprBehind, ExprAt}
-use Rattle.task.proofs.Judging.{lower-assoc, sound-lower}
+use Rattle.task.proofs.Judging.{sound-lower}
 use Rattle.task.proofs.Covering.{forward, covers-bind, covers-give, covers-many, covers-number}
 use Rattle.task.proofs.Pieces.{each-covers, wide-names, givens}
 use Rattle.item_check.proofs.Walks.{many-size}
 use Rattle.task_check.specs.declared.Walked.{Walked}
 use Rattle.task_check.specs.declared.Walked.the-variants as walked-is
 use Rattle.task_check.specs.Walk.{walked, after, applied, quantified}
-use Rattle.task_check.proofs.Rows.{Fold, after-sound, after-after, next-is}
+use Rattle.task_check.proofs.Rows.{Fold, after-sound, next-is}
 use Rattle.task_check.proofs.Exprs.{alike, stops, goes, lasts, leaf, unary, binary, ternary, nary}
 use Rattle.names.specs.declared.Found.{Found}
 use Rattle.names.specs.declared.Found.the-variants.{Entry, Nothing}
 use Rattle.names.specs.declared.Kind.the-variants.{Bound}
-use Rattle.names.specs.Table.{entries, lastOf, fits, namesOf, symbol}
+use Rattle.names.specs.Table.{entries, lastOf, fits, namesOf}
 use Rattle.names.specs.Theorems.{isFound}
 use Rattle.names.specs.Change.{Pushed, Popped, Restored}
 use Rattle.names.proofs.Theorems.{members, restored-all, restored-both, scope-ends}
-use Rattle.declared.specs.Symbols.{alone, named, rowSymbols}
+use Rattle.declared.specs.Symbols.{named, rowSymbols}
 use Rattle.declared.specs.Gather.{Collects}
 use Rattle.scope.specs.declared.ScopeParts.{ScopeParts}
 use Rattle.scope.specs.declared.ScopeParts.the-variants as scope-parts
 use Rattle.scope.specs.Known.{ctorsIn, varsIn, exprIn, exprsIn, Space}
 use Rattle.scope.specs.Walk.{scopeParts, letForm}
-use Rattle.scope.proofs.Tables.{space-on, space-kept, walked-on, vars-kept, ctors-kept, vars-more, ctors-more, expr-kept, bound-one, boundAll, row-bound, row-number, row-space, row-ends}
+use Rattle.scope.proofs.Tables.{space-on, space-kept, walked-on, vars-kept, ctors-kept, vars-more, ctors-more, bound-one, boundAll, row-bound, row-space, row-ends}
 
 -- A NAME
 

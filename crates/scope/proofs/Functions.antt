@@ -1,11 +1,10 @@
 -- What the steps of the walk over functions add up to, with premises in the form in which the code's steps give them.
 use mathlib.Core.Path.{_≡_, refl, sym, ap, _∙_}
-use mathlib.Core.Bool.{Bool, true, false, cond}
+use mathlib.Core.Bool.{Bool, true, false}
 use mathlib.Core.List.{List, [], _∷_, _++_, map}
 use mathlib.Core.Option.{Option, none, some}
-use Prim.Native.Nat.{ℕ, zero, suc, _+_, _*_, _-_, _≤_, _<_}
+use Prim.Native.Nat.{ℕ, zero, suc, _+_, _*_, _-_, _≤_}
 use native.Mathlib.Omega.{arith}
-use lib.Dec.{eqb}
 use lib.ListN.{length}
 use borrow.Author.Tests.{eq-eqb, ne-eqb}
 use Rattle.task.specs.declared.Fault.{Fault}
@@ -17,9 +16,9 @@ use Rattle.task.specs.declared.FlagRead.the-variants as flag-is
 use Rattle.task.specs.declared.Span.{Span}
 use Rattle.task.specs.declared.SpanRead.{SpanRead}
 use Rattle.task.specs.declared.SpanRead.the-variants as span-is
-use Rattle.task.specs.Ast.{Sort, Sorts, Expr, FunBody}
+use Rattle.task.specs.Ast.{Sorts, Expr, FunBody}
 use Rattle.task.specs.Covers.{Covers}
-use Rattle.task.specs.Decode.{Res, got, refuse, bind, give, _▹_, number, many, name, flag, decSort, decExpr, deepest}
+use Rattle.task.specs.Decode.{Res, got, bind, _▹_, number, many, name, flag, decSort, decExpr, deepest}
 use Rattle.task.specs.Fault.{each, nameFault, sortFault, sortsFault, sortsNumber}
 use Rattle.task.specs.Scope.{exprScope, bodyScope}
 use Rattle.task.specs.Node.{numberOf, flagOf, bytesOf, spanOf}
@@ -28,8 +27,8 @@ use Rattle.task.proofs.Covering.{forward, covers-many, covers-number}
 use Rattle.task.proofs.Pieces.{each-covers, wide-names, flags-cover}
 use Rattle.task_check.specs.declared.Walked.{Walked}
 use Rattle.task_check.specs.declared.Walked.the-variants as walked-is
-use Rattle.task_check.specs.Walk.{walked, after}
-use Rattle.task_check.proofs.Rows.{after-sound, next-is, refused-is}
+use Rattle.task_check.specs.Walk.{walked}
+use Rattle.task_check.proofs.Rows.{after-sound, next-is}
 use Rattle.task_check.proofs.Exprs.{stops, goes, lasts}
 use Rattle.item_check.proofs.Walks.{many-size}
 use Rattle.names.specs.declared.Kind.the-variants.{Bound}

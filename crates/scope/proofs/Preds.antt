@@ -2,11 +2,9 @@
 use mathlib.Core.Path.{_≡_, refl, sym, ap, _∙_}
 use mathlib.Core.Bool.{Bool, cond}
 use mathlib.Core.List.{List, [], _∷_, _++_, append-nil}
-use mathlib.Core.Option.{Option, none, some}
-use Prim.Native.Nat.{ℕ, zero, suc, _+_, _*_, _-_, _≤_, _<_}
-use native.Mathlib.Numerals.{sub-one}
+use mathlib.Core.Option.{Option, none}
+use Prim.Native.Nat.{ℕ, suc, _+_, _*_, _-_, _≤_, _<_}
 use native.Mathlib.Omega.{arith}
-use lib.Dec.{eqb}
 use lib.ListN.{length}
 use borrow.Author.Tests.{eq-eqb, ne-eqb}
 use Rattle.smtlib.specs.Lexicon.{isOne}
@@ -21,9 +19,9 @@ use Rattle.task.specs.declared.PredNode.{PredNode}
 use Rattle.task.specs.declared.PredNode.the-variants as pred-node
 use Rattle.task.specs.Ast.{Exprs, Pred}
 use Rattle.task.specs.Decode.{Res, got, refuse, bind, number, many, name, decExpr, decPred}
-use Rattle.task.specs.Fault.{lower, each}
+use Rattle.task.specs.Fault.{each}
 use Rattle.task.specs.Scope.{Globals, exprsNumber, argumentsFault, predScope}
-use Rattle.task.specs.Node.{numberOf, bytesOf, spanOf, predOf, PredAt, PredBehind}
+use Rattle.task.specs.Node.{numberOf, bytesOf, spanOf, predOf, PredAt}
 use Rattle.task.proofs.Judging.{sound-lower}
 use Rattle.item_check.proofs.Walks.{many-size}
 use Rattle.task_check.specs.declared.Walked.{Walked}
@@ -34,13 +32,11 @@ use Rattle.task_check.proofs.Exprs.{lasts}
 use Rattle.task_check.proofs.Preds.{pred-at}
 use Rattle.names.specs.declared.Found.{Found}
 use Rattle.names.specs.declared.Found.the-variants.{Entry, Nothing}
-use Rattle.names.specs.Table.{Symbol, symbol, countOf, offsetOf, entries, orElse, lastFrom, lastOf, fits, namesOf, Chained}
+use Rattle.names.specs.Table.{Symbol, offsetOf, entries, orElse, lastFrom, lastOf, fits, namesOf, Chained}
 use Rattle.names.specs.Change.{Kept, Restored}
-use Rattle.names.proofs.Lasts.{entries-length}
 use Rattle.names.proofs.Theorems.{searches, names-append, restored-all}
-use Rattle.declared.specs.Symbols.{together}
 use Rattle.declared.specs.Arity.{valueOf, sizeAt, sizeFound, arityIn}
-use Rattle.scope.specs.Known.{takenIn, ctorsIn, varsIn, globalsIn, exprIn, exprsIn, predIn, Space}
+use Rattle.scope.specs.Known.{takenIn, globalsIn, exprIn, exprsIn, predIn, Space}
 use Rattle.scope.specs.Walk.{sizeOf}
 use Rattle.scope.proofs.Tables.{space-on, vars-kept, ctors-kept, ctors-more, boundAll}
 

@@ -7,12 +7,12 @@ use Prim.Native.Nat.{ℕ, zero, suc, _+_, _*_, _-_, _≤_, _<_}
 use native.Mathlib.Omega.{arith}
 use lib.Dec.{leb, eqb}
 use lib.ListN.{length, take, length-append, length-take}
-use borrow.Author.Tests.{lt-ltb, le-leb, eqb-true}
+use borrow.Author.Tests.{lt-ltb, le-leb}
 use Rattle.task.specs.declared.Fault.{Fault}
 use Rattle.task.specs.declared.Fault.the-variants.{Arity, Sound}
 use Rattle.task.specs.Ast.{Sorts, FunBody, FunDef}
 use Rattle.task.specs.Covers.{Covers, CoversSome}
-use Rattle.task.specs.Decode.{Res, got, refuse, bind, Decoder, give, refusal, _▹_, number, many, counted, name, flag, decSort, decExpr, body, function, items, section, deepest}
+use Rattle.task.specs.Decode.{got, bind, Decoder, give, refusal, _▹_, number, many, counted, name, flag, decSort, decExpr, body, function, items, deepest}
 use Rattle.task.specs.Run.{Runs}
 use Rattle.task.specs.Fault.{lower, each, refusalOf, unless, sortsFault, sortFault, sortsNumber, nameFault, exprFault, arityFault, bodyFault, functionFault}
 use Rattle.task.specs.Scope.{bodyScope, functionsScope}
@@ -20,7 +20,7 @@ use Rattle.task.proofs.Reading.{bind-got, got-refuse, same-value}
 use Rattle.task.proofs.Judging.{lower-assoc, lower-sound, sound-lower, sound-parts}
 use Rattle.task.proofs.Scoping.{fault-sound}
 use Rattle.task.proofs.Running.{Steps}
-use Rattle.task.proofs.Covering.{covers-refusal, covers-give, covers-cond, covers-bind, covers-less, covers-many, covers-number}
+use Rattle.task.proofs.Covering.{covers-refusal, covers-give, covers-cond, covers-bind, covers-number}
 use Rattle.task.proofs.Pieces.{CoversAny, any, nothing, _⟫_, any-number, any-many, any-counted, each-covers, wide-names, flags-cover}
 use Rattle.task.proofs.Sections.{in-whole, Over, over-start, over-more, over-stuck, over-end}
 use Rattle.task_check.specs.declared.Walked.{Walked}
@@ -28,7 +28,7 @@ use Rattle.task_check.specs.declared.Walked.the-variants as walked-is
 use Rattle.task_check.specs.Walk.{walked}
 use Rattle.task_check.proofs.Rows.{next-is, refused-is}
 use Rattle.item_check.proofs.Walks.{many-size}
-use Rattle.names.specs.Table.{Symbol, symbol, entries, namesOf, Chained, roomFor, add}
+use Rattle.names.specs.Table.{Symbol, symbol, entries, namesOf, roomFor, add}
 use Rattle.names.specs.Change.{Pushed, Restored}
 use Rattle.names.proofs.Theorems.{names-append}
 use Rattle.declared.specs.Symbols.{together, functionSymbols}
@@ -36,7 +36,6 @@ use Rattle.declared.proofs.Collecting.{stands}
 use Rattle.scope.specs.Known.{ctorsIn, varsIn, Space}
 use Rattle.scope.specs.Walk.{bodyForm, perhapsBody, signatureForm, functionForm, perhapsIn}
 use Rattle.scope.specs.Judged.{FunctionsJudged}
-use Rattle.scope.proofs.Tables.{space-kept, vars-kept, ctors-kept}
 
 -- A FUNCTION WITHOUT FAULT
 

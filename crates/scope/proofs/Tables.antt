@@ -1,7 +1,7 @@
 -- What a table says of names before and behind a scope, and pieces in a row that are walked with it.
 use mathlib.Core.Path.{_≡_, refl, sym, ap, _∙_}
 use mathlib.Core.List.{List, [], _∷_, _++_, map, append-nil}
-use Prim.Native.Nat.{ℕ, suc, _+_, _*_, _-_, _≤_, _<_}
+use Prim.Native.Nat.{ℕ, _+_, _*_, _-_, _≤_, _<_}
 use native.Mathlib.Omega.{arith}
 use lib.ListN.{length, length-append}
 use borrow.Author.Tests.{lt-ltb, le-leb}
@@ -16,7 +16,7 @@ use Rattle.task_check.specs.declared.Walked.the-variants as walked-is
 use Rattle.task_check.specs.Walk.{walked, after}
 use Rattle.task_check.proofs.Rows.{Fold, next-is, row-goes, row-stops, row-ends as row-done}
 use Rattle.names.specs.declared.Kind.the-variants.{Bound}
-use Rattle.names.specs.Table.{Symbol, symbol, entries, namesOf, Chained, roomFor, add}
+use Rattle.names.specs.Table.{Symbol, symbol, entries, namesOf, roomFor, add}
 use Rattle.names.specs.Change.{Pushed, Popped, Restored}
 use Rattle.names.proofs.Theorems.{names-append, restored-all, restored-both, scope-ends}
 use Rattle.declared.specs.Symbols.{alone, together, rowSymbols}

@@ -1,8 +1,7 @@
 -- What the walk over the names of a whole file adds up to.
 use mathlib.Core.Path.{_≡_, refl, sym, ap, _∙_, subst⁻¹}
-use mathlib.Core.Bool.{Bool, true}
+use mathlib.Core.Bool.{true}
 use mathlib.Core.List.{List, [], _∷_, _++_, map, append-assoc}
-use mathlib.Core.Option.{Option}
 use Prim.Native.Nat.{ℕ, _+_, _*_, _≤_}
 use native.Mathlib.Omega.{arith}
 use lib.ListN.{length, take, length-append}
@@ -11,9 +10,9 @@ use Rattle.smtlib.proofs.Bools.{clash}
 use Rattle.task.specs.declared.Fault.{Fault}
 use Rattle.task.specs.declared.Fault.the-variants.{Sound}
 use Rattle.task.specs.Ast.{FunDef, Task}
-use Rattle.task.specs.Decode.{got, function, section, decConstraint, deepest}
-use Rattle.task.specs.Fault.{lower, each, textFault, datatypeFault, binderFault, functionFault, kvarFault, constraintFault, taskFault}
-use Rattle.task.specs.Scope.{declaredBy, takenNames, everywhere, inConstraint, arityOf, functionsScope, Globals, globalsOf, constraintNames, namesFault}
+use Rattle.task.specs.Decode.{function, section, decConstraint, deepest}
+use Rattle.task.specs.Fault.{lower, each, functionFault, taskFault}
+use Rattle.task.specs.Scope.{declaredBy, takenNames, everywhere, inConstraint, arityOf, functionsScope, globalsOf, constraintNames, namesFault}
 use Rattle.task.specs.Task.{bound, framed, decoded}
 use Rattle.task.proofs.Reading.{same-value}
 use Rattle.task.proofs.Judging.{sound-parts}
@@ -24,11 +23,11 @@ use Rattle.task_check.specs.declared.Walked.{Walked}
 use Rattle.task_check.specs.declared.Walked.the-variants as walked-is
 use Rattle.task_check.specs.Walk.{walked}
 use Rattle.trailer.specs.declared.Bounds.{Bounds}
-use Rattle.trailer.specs.Bounds.{boundsOf, Inside}
+use Rattle.trailer.specs.Bounds.{Inside}
 use Rattle.trailer.proofs.Trailers.{framed-is}
 use Rattle.names.specs.declared.Kind.the-variants.{Function}
 use Rattle.names.specs.Table.{Symbol, entries, namesOf}
-use Rattle.names.specs.Change.{Blank, Restored}
+use Rattle.names.specs.Change.{Restored}
 use Rattle.names.proofs.Theorems.{names-append}
 use Rattle.declared.specs.Symbols.{together, functionSymbols, dataSymbols, kvarsSymbols, symbolsOf}
 use Rattle.declared.specs.Gather.{Ready, Declared, KVarsDeclared}

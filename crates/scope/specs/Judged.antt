@@ -1,5 +1,5 @@
 -- What the walk over the functions and over the whole file tells. Only contracts of inner functions and of `inspect` speak of it.
-use Prim.Native.Nat.{ℕ, _+_, _≤_}
+use Prim.Native.Nat.{ℕ, _+_}
 use mathlib.Core.Path.{_≡_}
 use mathlib.Core.Bool.{true}
 use mathlib.Core.List.{List, _++_, map}

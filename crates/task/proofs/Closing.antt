@@ -15,7 +15,7 @@ use Rattle.task.specs.declared.Fault.the-variants.{Unknown, Arguments}
 use Rattle.task.specs.Ast.{Expr, Exprs, Pred, KVarDecl, Task}
 use Rattle.task.specs.Fault.{rank, lower, unless, sortsNumber}
 use Rattle.task.specs.Scope.{declaredBy, arityOf, knownFault, exprScope, exprsScope, globalsOf, exprsNumber, argumentsFault, predScope}
-use Rattle.task.specs.Names.{freeIn, freeAmong, testedIn, testedAmong, Within, Closed, ExprClosed, PredClosed, PredCounted}
+use Rattle.task.specs.Names.{freeIn, freeAmong, testedIn, testedAmong, Closed, ExprClosed, PredClosed, PredCounted}
 use Rattle.task.proofs.Reading.{le-or-lt}
 use Rattle.task.proofs.Judging.{lower-left, lower-right}
 use Rattle.task.proofs.Members.{first, second, one-append}

@@ -1,20 +1,19 @@
 -- The names of a task: what their fault says.
 use Prim.Native.Nat.{ℕ, suc, _<_}
 use mathlib.Core.Path.{_≡_, refl, sym, ap, _∙_}
-use mathlib.Core.Bool.{Bool, true, false, cond, not, _||_}
+use mathlib.Core.Bool.{Bool, true, false, not, _||_}
 use mathlib.Core.Logic.{⊎-elim}
 use mathlib.Core.List.{List, [], _∷_, _++_, map}
 use mathlib.Core.Option.{Option, none, some}
 use native.Mathlib.Omega.{arith}
-use lib.Dec.{eqb}
 use Rattle.smtlib.specs.Lexicon.{same, isOne}
 use Rattle.smtlib.proofs.Bools.{is-true, true-holds, either, clash, same-self, same→eq}
 use Rattle.task.specs.declared.Fault.{Fault}
 use Rattle.task.specs.declared.Fault.the-variants.{Clash, Unknown, Arguments, Sound}
-use Rattle.task.specs.Ast.{Expr, Pred, Constraint, Constraints, FunBody, FunDef, Task}
-use Rattle.task.specs.Fault.{rank, lower, each, unless}
-use Rattle.task.specs.Scope.{declaredBy, takenNames, everywhere, inConstraint, exprScope, bodyScope, functionsScope, Globals, globalsOf, predScope, constraintNames, constraintsNames, namesFault}
-use Rattle.task.specs.Names.{forAllNames, forAllsIn, fieldNames, Disjoint, Apart, ExprClosed, PredClosed, PredCounted, Each, EachPred, EachPreds, InBody, EachBody, Known, Counted, NameRules, NamesHold, SoundNames}
+use Rattle.task.specs.Ast.{Pred, Constraint, Constraints, FunBody, FunDef, Task}
+use Rattle.task.specs.Fault.{rank, each, unless}
+use Rattle.task.specs.Scope.{declaredBy, takenNames, everywhere, inConstraint, bodyScope, functionsScope, Globals, globalsOf, predScope, constraintNames, constraintsNames, namesFault}
+use Rattle.task.specs.Names.{forAllNames, forAllsIn, fieldNames, Disjoint, Apart, ExprClosed, PredClosed, PredCounted, Each, EachPred, EachPreds, InBody, EachBody, Known, Counted, NameRules, SoundNames}
 use Rattle.task.proofs.Reading.{le-or-lt}
 use Rattle.task.proofs.Judging.{rank-most, ranked, rank-ranked}
 use Rattle.task.proofs.Members.{none-first, none-second, first, second, one-append, one-taken}

@@ -7,7 +7,7 @@ use lib.Dec.{eqb}
 use Rattle.smtlib.specs.Lexicon.{same, isOne}
 use Rattle.task.specs.declared.Fault.{Fault}
 use Rattle.task.specs.declared.Fault.the-variants.{Clash, Unknown, Arguments, Sound}
-use Rattle.task.specs.Ast.{Binder, Expr, Exprs, Pred, Constraint, Constraints, DataCtor, DataDecl, FunBody, FunDef, KVarDecl, Task}
+use Rattle.task.specs.Ast.{Expr, Exprs, Pred, Constraint, Constraints, DataCtor, DataDecl, FunBody, FunDef, KVarDecl, Task}
 use Rattle.task.specs.Fault.{lower, unless, each, sortsNumber}
 
 -- WHAT A TASK DECLARES

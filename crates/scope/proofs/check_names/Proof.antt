@@ -1,6 +1,5 @@
 -- check_names declares, judges the bodies, declares KVars, and judges the constraint.
-use mathlib.Core.Path.{_∙_}
-use Rattle.scope.proofs.Whole.{sectioned-inside, functions-space, kvars-ready, constraint-space, kvars-words, names-read, names-judged}
+use Rattle.scope.proofs.Whole.{sectioned-inside, functions-space, kvars-ready, constraint-space, names-read, names-judged}
 use borrow.Author.Needs.{needs}
 use Rattle.scope.proofs.check_names.Statement.{statement}
 use Rattle.scope.proofs.check_names.Tie as tie

@@ -1,6 +1,4 @@
 -- scope_body pushes the arguments, judges the expression, and pops them.
-use mathlib.Core.Path.{_∙_}
-use native.Mathlib.Omega.{arith}
 use Rattle.scope.proofs.Functions.{body-uncounted, body-unmatched, body-args-stop, body-space, body-walks}
 use borrow.Author.Needs.{needs}
 use Rattle.scope.proofs.scope_body.Statement.{statement}

@@ -1,9 +1,7 @@
 -- atom_node gives the relation, or refuses.
-use Rattle.task.specs.Decode.{exprForms}
-use Rattle.task.specs.Node.{exprOf}
+use Rattle.task.specs.Decode.{exprForms, coded, binRels}
+use Rattle.task.specs.Node.{exprOf, binRelOf}
 use mathlib.Core.Path.{ap, _∙_}
-use Rattle.task.specs.Decode.{coded, binRels}
-use Rattle.task.specs.Node.{binRelOf}
 use Rattle.task.proofs.Covering.{forward}
 use Rattle.task.proofs.Pieces.{rels}
 use borrow.Author.Needs.{needs}

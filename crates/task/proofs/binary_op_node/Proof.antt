@@ -1,9 +1,7 @@
 -- binary_op_node gives the operation, or refuses.
-use Rattle.task.specs.Decode.{exprForms}
-use Rattle.task.specs.Node.{exprOf}
+use Rattle.task.specs.Decode.{exprForms, coded, binOps}
+use Rattle.task.specs.Node.{exprOf, binOpOf}
 use mathlib.Core.Path.{ap, _∙_}
-use Rattle.task.specs.Decode.{coded, binOps}
-use Rattle.task.specs.Node.{binOpOf}
 use Rattle.task.proofs.Covering.{forward}
 use Rattle.task.proofs.Pieces.{ops}
 use borrow.Author.Needs.{needs}

@@ -1,10 +1,8 @@
 -- bit_vec_node gives the number by its halves and the width, or refuses.
-use Rattle.task.specs.Decode.{exprForms}
-use Rattle.task.specs.Node.{exprOf}
+use Rattle.task.specs.Decode.{exprForms, number}
+use Rattle.task.specs.Node.{exprOf, numberOf, halvesOf}
 use mathlib.Core.Path.{ap, _∙_}
 use native.Mathlib.Omega.{arith}
-use Rattle.task.specs.Decode.{number}
-use Rattle.task.specs.Node.{numberOf, halvesOf}
 use Rattle.task.proofs.Covering.{covers-number, forward}
 use borrow.Author.Needs.{needs}
 use Rattle.task.proofs.bit_vec_node.Statement.{statement}

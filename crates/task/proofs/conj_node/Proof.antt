@@ -1,8 +1,7 @@
 -- conj_node gives the count, or refuses.
-use Rattle.task.specs.Node.{constraintOf}
+use Rattle.task.specs.Node.{constraintOf, numberOf}
 use mathlib.Core.Path.{ap, _∙_}
 use Rattle.task.specs.Decode.{number}
-use Rattle.task.specs.Node.{numberOf}
 use Rattle.task.proofs.Covering.{covers-number, forward}
 use borrow.Author.Needs.{needs}
 use Rattle.task.proofs.conj_node.Statement.{statement}

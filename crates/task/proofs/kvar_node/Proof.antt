@@ -1,9 +1,8 @@
 -- kvar_node gives the name's place and the count, or refuses.
-use Rattle.task.specs.Node.{predOf}
+use Rattle.task.specs.Node.{predOf, numberOf, spanOf}
 use mathlib.Core.Path.{ap, _∙_}
 use native.Mathlib.Omega.{arith}
 use Rattle.task.specs.Decode.{name, number}
-use Rattle.task.specs.Node.{numberOf, spanOf}
 use Rattle.task.proofs.Covering.{covers-number, forward}
 use Rattle.task.proofs.Pieces.{each-covers}
 use borrow.Author.Needs.{needs}

@@ -1,9 +1,7 @@
 -- numeral_node gives the number by its halves, or refuses.
-use Rattle.task.specs.Decode.{exprForms}
-use Rattle.task.specs.Node.{exprOf}
+use Rattle.task.specs.Decode.{exprForms, number}
+use Rattle.task.specs.Node.{exprOf, halvesOf}
 use mathlib.Core.Path.{ap, _∙_}
-use Rattle.task.specs.Decode.{number}
-use Rattle.task.specs.Node.{halvesOf}
 use Rattle.task.proofs.Covering.{covers-number, forward}
 use borrow.Author.Needs.{needs}
 use Rattle.task.proofs.numeral_node.Statement.{statement}

@@ -1,10 +1,8 @@
 -- quantifier_node gives the quantifier and the count, or refuses.
-use Rattle.task.specs.Decode.{exprForms}
-use Rattle.task.specs.Node.{exprOf}
+use Rattle.task.specs.Decode.{exprForms, coded, number, quantifiers}
+use Rattle.task.specs.Node.{exprOf, numberOf, quantifierOf}
 use mathlib.Core.Path.{ap, _∙_}
 use native.Mathlib.Omega.{arith}
-use Rattle.task.specs.Decode.{coded, number, quantifiers}
-use Rattle.task.specs.Node.{numberOf, quantifierOf}
 use Rattle.task.proofs.Covering.{covers-number, forward}
 use Rattle.task.proofs.Pieces.{quants}
 use borrow.Author.Needs.{needs}

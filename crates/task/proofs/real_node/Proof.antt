@@ -1,9 +1,7 @@
 -- real_node gives the number, or refuses.
-use Rattle.task.specs.Decode.{exprForms}
-use Rattle.task.specs.Node.{exprOf}
+use Rattle.task.specs.Decode.{exprForms, number}
+use Rattle.task.specs.Node.{exprOf, numberOf}
 use mathlib.Core.Path.{ap, _∙_}
-use Rattle.task.specs.Decode.{number}
-use Rattle.task.specs.Node.{numberOf}
 use Rattle.task.proofs.Covering.{covers-number, forward}
 use borrow.Author.Needs.{needs}
 use Rattle.task.proofs.real_node.Statement.{statement}

@@ -1,9 +1,7 @@
 -- string_node gives the text's place, or refuses.
-use Rattle.task.specs.Decode.{exprForms}
-use Rattle.task.specs.Node.{exprOf}
+use Rattle.task.specs.Decode.{exprForms, text}
+use Rattle.task.specs.Node.{exprOf, spanOf}
 use mathlib.Core.Path.{ap, _∙_}
-use Rattle.task.specs.Decode.{text}
-use Rattle.task.specs.Node.{spanOf}
 use Rattle.task.proofs.Covering.{forward}
 use Rattle.task.proofs.Pieces.{each-covers}
 use borrow.Author.Needs.{needs}

@@ -1,9 +1,7 @@
 -- thy_func_node gives the function, or refuses.
-use Rattle.task.specs.Decode.{exprForms}
-use Rattle.task.specs.Node.{exprOf}
+use Rattle.task.specs.Decode.{exprForms, coded, thyFuncs}
+use Rattle.task.specs.Node.{exprOf, thyFuncOf}
 use mathlib.Core.Path.{ap, _∙_}
-use Rattle.task.specs.Decode.{coded, thyFuncs}
-use Rattle.task.specs.Node.{thyFuncOf}
 use Rattle.task.proofs.Covering.{forward}
 use Rattle.task.proofs.Pieces.{thys}
 use borrow.Author.Needs.{needs}
