@@ -27,12 +27,12 @@ use Rattle.declared.specs.Gather.{adds, itemSymbols}
 abbrev owed : List Symbol → ℕ
 owed es = 3 * length es
 
-binders-wide : Covers (λ b. 3) (binder deepest)
-binders-wide =
-    covers-bind (λ b. 3) (λ x. 2) name _ wide-names (λ x. covers-bind (λ b. 1) (λ b. 1) (decSort deepest) _ (each-covers .sorts deepest) (λ b. covers-give (λ a. 0) _ (omega arith)))
+pub binders-wide : (l : ℕ) → Covers (λ b. 3) (binder l)
+binders-wide l =
+    covers-bind (λ b. 3) (λ x. 2) name _ wide-names (λ x. covers-bind (λ b. 1) (λ b. 1) (decSort l) _ (each-covers .sorts l) (λ b. covers-give (λ a. 0) _ (omega arith)))
 
 fields-wide : (n : ℕ) → Covers (λ fs. owed (fieldSymbols fs)) (many [] _∷_ (binder deepest) n)
-fields-wide n = covers-many (λ fs. owed (fieldSymbols fs)) (λ b. 3) [] _∷_ (binder deepest) (omega arith) (λ b fs. omega arith) binders-wide n
+fields-wide n = covers-many (λ fs. owed (fieldSymbols fs)) (λ b. 3) [] _∷_ (binder deepest) (omega arith) (λ b fs. omega arith) (binders-wide deepest) n
 
 ctors-wide : Covers (λ c. owed (ctorSymbols c)) dataCtor
 ctors-wide =
@@ -59,7 +59,7 @@ items-wide : (i : Section) → Covers owed (itemSymbols i)
 unfolding itemSymbols
 items-wide Comments = covers-refusal owed 2
 items-wide Datatypes = taken-wide datatypeSymbols datatype datatypes-wide
-items-wide Constants = taken-wide (named Constant) constant binders-wide
+items-wide Constants = taken-wide (named Constant) constant (binders-wide deepest)
 items-wide Functions = covers-refusal owed 2
 items-wide KVars = covers-refusal owed 2
 

@@ -25,7 +25,7 @@ use Rattle.task.specs.Fault.{lower, each, binderFault, givenFault}
 use Rattle.task.specs.Scope.{knownFault, exprScope}
 use Rattle.task.specs.Node.{numberOf, bytesOf, spanOf, exprOf, ExprBehind, ExprAt}
 use Rattle.task.proofs.Judging.{sound-lower}
-use Rattle.task.proofs.Covering.{forward, covers-bind, covers-give, covers-many, covers-number}
+use Rattle.task.proofs.Covering.{forward, covers-many, covers-number}
 use Rattle.task.proofs.Pieces.{each-covers, wide-names, givens}
 use Rattle.item_check.proofs.Walks.{many-size}
 use Rattle.task_check.specs.declared.Walked.{Walked}
@@ -42,6 +42,7 @@ use Rattle.names.specs.Change.{Pushed, Popped, Restored}
 use Rattle.names.proofs.Theorems.{members, restored-all, restored-both, scope-ends}
 use Rattle.declared.specs.Symbols.{named, rowSymbols}
 use Rattle.declared.specs.Gather.{Collects}
+use Rattle.declared.proofs.Counting.{binders-wide}
 use Rattle.scope.specs.declared.ScopeParts.{ScopeParts}
 use Rattle.scope.specs.declared.ScopeParts.the-variants as scope-parts
 use Rattle.scope.specs.Known.{ctorsIn, varsIn, exprIn, exprsIn, Space}
@@ -288,10 +289,6 @@ module _ (s t : List ℕ) (l at : ℕ) (c : Space s t at × (3 * length (entries
             )
 
 -- A QUANTIFIER
-
-binders-wide : (l : ℕ) → Covers (λ b. 3) (binder l)
-binders-wide l =
-    covers-bind (λ b. 3) (λ x. 2) name _ wide-names (λ x. covers-bind (λ b. 1) (λ b. 1) _ _ (each-covers .sorts l) (λ b. covers-give (λ a. 0) _ (omega arith)))
 
 rows-wide : (l n : ℕ) → Covers (λ bs. 3 * length bs) (many [] _∷_ (binder l) n)
 rows-wide l n = covers-many (λ bs. 3 * length bs) (λ b. 3) [] _∷_ (binder l) (omega arith) (λ b bs. omega arith) (binders-wide l) n
