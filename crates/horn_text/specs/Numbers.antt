@@ -82,6 +82,14 @@ datatypeOf d c f = named d ++ 0 ∷ 0 ∷ 1 ∷ 0 ∷ named c ++ 1 ∷ 0 ∷ nam
 abbrev pub identity : String → String → List ℕ
 identity f x = named f ++ 0 ∷ 0 ∷ 1 ∷ 0 ∷ 0 ∷ 0 ∷ 1 ∷ 1 ∷ 0 ∷ named x ++ var x
 
+-- a function without inputs, with output Int and this body
+abbrev pub defined : String → List ℕ → List ℕ
+defined f e = named f ++ 0 ∷ 0 ∷ 0 ∷ 0 ∷ 0 ∷ 1 ∷ 0 ∷ 0 ∷ e
+
+-- a file with these functions, which nothing uses
+abbrev pub functionsOnly : List ℕ → List ℕ
+functionsOnly functions = fileWith [] [] [] functions [] nothing
+
 -- a KVar without arguments
 abbrev pub kvarOf : String → List ℕ
 kvarOf k = named k ++ 0 ∷ 0 ∷ []
@@ -172,27 +180,38 @@ fineFiles =
     constraintOnly (underX (20 ∷ 1 ∷ 1 ∷ 0 ∷ named "x" ++ 0 ∷ var "x")) ∷
     []
 
--- Further files with a name that is not known (W-201): a Let's own name in its first operand; a function that calls itself; an argument in the constraint; a
--- Quantifier's name behind it; IsCtor of a field's name; a KVar and a datatype as a Var; an undeclared KVar, also with a wrong number of arguments elsewhere.
--- And of two KVars with one name the first counts.
+-- Further files with a name that is not known (W-201). In this order: a Let's own name in its first operand; a function in its own body, and in that of one in front
+-- of it; an argument in another function's body, and in the constraint; a Quantifier's name and a ForAll's behind them; IsCtor of a field and of a datatype; as a Var a
+-- KVar, a datatype and a word of SMT-LIB, and such a word as the head of an App; as a KVar predicate a constant, and a name that nothing has, beside a KVar with a wrong
+-- number of arguments. A ForAll with a declared name over a Var that is not known: 15 is judged first. Of two KVars with one name the first counts for 11.
 abbrev pub unknownFiles : List Row
 unknownFiles =
     (10, headOf (16 ∷ named "a" ++ var "a" ++ 1 ∷ 1 ∷ [])) ∷
-    (10, fileWith [] [] [] (named "f" ++ 0 ∷ 0 ∷ 0 ∷ 0 ∷ 0 ∷ 1 ∷ 0 ∷ 0 ∷ var "f") [] nothing) ∷
+    (10, functionsOnly (defined "f" (var "f"))) ∷
+    (10, functionsOnly (defined "f" (var "g") ++ identity "g" "a")) ∷
+    (10, functionsOnly (identity "f" "a" ++ defined "g" (var "a"))) ∷
     (10, fileWith [] [] [] (identity "f" "a") [] (head (exprPred (var "a")))) ∷
     (10, headOf (13 ∷ 2 ∷ 0 ∷ 20 ∷ 0 ∷ 1 ∷ 0 ∷ named "a" ++ 0 ∷ var "a" ++ var "a")) ∷
+    (10, constraintOnly (1 ∷ 2 ∷ 0 ∷ underX (var "x") ++ head (exprPred (var "x")))) ∷
     (10, fileOf (datatypeOf "d" "c" "f") [] (head (exprPred (19 ∷ named "f" ++ var "c")))) ∷
+    (10, fileOf (datatypeOf "d" "c" "f") [] (head (exprPred (19 ∷ named "d" ++ var "c")))) ∷
     (10, fileWith [] [] [] [] (kvarOf "k") (head (exprPred (var "k")))) ∷
     (10, fileOf (datatypeOf "d" "c" "f") [] (head (exprPred (var "d")))) ∷
+    (10, headOf (var "true")) ∷
+    (10, headOf (17 ∷ 0 ∷ var "and" ++ 0 ∷ 0 ∷ [])) ∷
+    (10, fileOf [] (named "k" ++ 1 ∷ []) (kvarHead "k" [])) ∷
     (10, fileWith [] [] [] [] (named "k" ++ 1 ∷ 0 ∷ 0 ∷ []) (1 ∷ 2 ∷ 0 ∷ kvarHead "k" [] ++ kvarHead "l" [])) ∷
+    (15, fileOf [] (named "x" ++ 0 ∷ []) (underX (var "a"))) ∷
     (11, fileWith [] [] [] [] (kvarOf "k" ++ named "k" ++ 1 ∷ 0 ∷ 0 ∷ []) (kvarHead "k" (1 ∷ 1 ∷ []))) ∷
     []
 
--- and files in which each name is known
+-- And files in which each name is known: a Let's in its second operand; in the constraint a constructor, a field, a constant, a function and a ForAll's name; in a body a
+-- constructor, a field, a constant and a function in front, which has an argument; IsCtor of a constructor; of two KVars with one name the first.
 abbrev pub knownFiles : List (List ℕ)
 knownFiles =
     headOf (16 ∷ named "a" ++ 1 ∷ 1 ∷ var "a") ∷
-    fileWith [] [] [] (identity "f" "a" ++ named "g" ++ 0 ∷ 0 ∷ 0 ∷ 0 ∷ 0 ∷ 1 ∷ 0 ∷ 0 ∷ var "f") [] (head (exprPred (17 ∷ 0 ∷ var "g" ++ 0 ∷ 0 ∷ []))) ∷
+    fileWith [] (datatypeOf "d" "c" "f") (named "n" ++ 0 ∷ []) (identity "g" "a") [] (underX (13 ∷ 5 ∷ 0 ∷ var "c" ++ var "f" ++ var "n" ++ var "g" ++ var "x")) ∷
+    fileWith [] (datatypeOf "d" "c" "f") (named "n" ++ 0 ∷ []) (identity "g" "a" ++ defined "h" (13 ∷ 4 ∷ 0 ∷ var "c" ++ var "f" ++ var "n" ++ var "g")) [] nothing ∷
     fileOf (datatypeOf "d" "c" "f") [] (head (exprPred (19 ∷ named "c" ++ var "f"))) ∷
     fileWith [] [] [] [] (kvarOf "k" ++ named "k" ++ 1 ∷ 0 ∷ 0 ∷ []) (kvarHead "k" []) ∷
     []

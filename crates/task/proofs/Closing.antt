@@ -1,6 +1,6 @@
 -- Where the names in an expression, a body or a predicate are known: what its fault says.
-use Prim.Native.Nat.{ℕ, _<_}
-use mathlib.Core.Path.{_≡_, refl, sym, ap, _∙_}
+use Prim.Native.Nat.{ℕ, _<_, _≤_}
+use mathlib.Core.Path.{_≡_, refl, sym, ap, _∙_, subst⁻¹}
 use mathlib.Core.Bool.{Bool, true, false, cond, not, _||_, _&&_}
 use mathlib.Core.Logic.{⊎-elim}
 use mathlib.Core.List.{List, [], _∷_, _++_, map}
@@ -22,22 +22,25 @@ use Rattle.task.proofs.Members.{first, second, one-append}
 
 -- RANKS
 
--- the rank of the fault that is judged first
+-- the fault that is judged first has the lower of two ranks
+module _ (f g : Fault) where
+  lowest : (rank (lower f g) ≤ rank f) × (rank (lower f g) ≤ rank g)
+  lowest =
+      ⊎-elim (λ a. let e : rank (lower f g) ≡ rank f = ap rank (lower-left f g a) in (omega arith, omega arith))
+      (λ b. let e : rank (lower f g) ≡ rank g = ap rank (lower-right f g b) in (omega arith, omega arith)) (le-or-lt (rank f) (rank g))
+
+  one-of-two : (P : Fault → Type 0) → P f → P g → P (lower f g)
+  one-of-two P a b = ⊎-elim (λ h. subst⁻¹ P (lower-left f g h) a) (λ h. subst⁻¹ P (lower-right f g h) b) (le-or-lt (rank f) (rank g))
+
 module _ (k : ℕ) (f g : Fault) where
   pub above-left : k < rank (lower f g) → k < rank f
-  above-left h =
-      ⊎-elim (λ a. let e : rank (lower f g) ≡ rank f = ap rank (lower-left f g a) in omega arith) (λ b. let e : rank (lower f g) ≡ rank g = ap rank (lower-right f g b) in omega arith)
-      (le-or-lt (rank f) (rank g))
+  above-left h = let l = lowest f g .0 in omega arith
 
   pub above-right : k < rank (lower f g) → k < rank g
-  above-right h =
-      ⊎-elim (λ a. let e : rank (lower f g) ≡ rank f = ap rank (lower-left f g a) in omega arith) (λ b. let e : rank (lower f g) ≡ rank g = ap rank (lower-right f g b) in omega arith)
-      (le-or-lt (rank f) (rank g))
+  above-right h = let l = lowest f g .1 in omega arith
 
   pub above-both : k < rank f → k < rank g → k < rank (lower f g)
-  above-both a b =
-      ⊎-elim (λ h. let e : rank (lower f g) ≡ rank f = ap rank (lower-left f g h) in omega arith) (λ h. let e : rank (lower f g) ≡ rank g = ap rank (lower-right f g h) in omega arith)
-      (le-or-lt (rank f) (rank g))
+  above-both = one-of-two f g (λ h. k < rank h)
 
 -- NAMES
 

@@ -86,11 +86,15 @@ rank-ranked Unknown = refl
 rank-ranked Arguments = refl
 rank-ranked Sound = refl
 
+-- a fault is known by its rank
+pub by-rank : (f g : Fault) → rank f ≡ rank g → f ≡ g
+by-rank f g e = sym (rank-ranked f) ∙ ap ranked e ∙ rank-ranked g
+
 pub lower-comm : (f g : Fault) → lower f g ≡ lower g f
 lower-comm f g =
     ⊎-elim
     (λ a. ⊎-elim
-    (λ b. let r : rank f ≡ rank g = omega arith in let e : f ≡ g = sym (rank-ranked f) ∙ ap ranked r ∙ rank-ranked g in rw e)
+    (λ b. let e : f ≡ g = by-rank f g (omega arith) in rw e)
     (λ b. lower-left f g a ∙ sym (lower-right g f b))
     (le-or-lt (rank g) (rank f)))
     (λ a. lower-right f g a ∙ sym (lower-left g f (omega arith)))

@@ -15,7 +15,7 @@ use Rattle.task.specs.Fault.{rank, each, unless}
 use Rattle.task.specs.Scope.{declaredBy, takenNames, everywhere, inConstraint, bodyScope, functionsScope, Globals, globalsOf, predScope, constraintNames, constraintsNames, namesFault}
 use Rattle.task.specs.Names.{forAllNames, forAllsIn, fieldNames, Disjoint, Apart, ExprClosed, PredClosed, PredCounted, Each, EachPred, EachPreds, InBody, EachBody, Known, Counted, NameRules, SoundNames}
 use Rattle.task.proofs.Reading.{le-or-lt}
-use Rattle.task.proofs.Judging.{rank-most, ranked, rank-ranked}
+use Rattle.task.proofs.Judging.{rank-most, by-rank}
 use Rattle.task.proofs.Members.{none-first, none-second, first, second, one-append, one-taken}
 use Rattle.task.proofs.Closing.{above-left, above-right, above-both, expr-closed, expr-sound, expr-late, pred-closed, closed-pred, pred-counted, counted-pred, pred-late}
 
@@ -68,7 +68,11 @@ module _ (P Q R : List (List ℕ) → Pred → Type 0) (f : (known : List (List 
     zips known Constraints.none a b = tt
     zips known (Constraints.more c cs) a b = (zip known c (a .0) (b .0), zips known cs (a .1) (b .1))
 
--- of what holds of one, given that it holds of all
+-- one gives the other
+mapped : (P R : List (List ℕ) → Pred → Type 0) → ((known : List (List ℕ)) (p : Pred) → P known p → R known p) → (known : List (List ℕ)) (c : Constraint) → EachPred P known c → EachPred R known c
+mapped P R f known c a = zip P P R (λ v p x y. f v p x) known c a a
+
+-- what holds of any predicate
 module _ (Q : List (List ℕ) → Pred → Type 0) (f : (known : List (List ℕ)) (p : Pred) → Q known p) where
   all-list : (known : List (List ℕ)) (ps : List Pred) → Each (Q known) ps
   all-list known [] = tt
@@ -206,14 +210,14 @@ module _ (t : Task) where
   behind-10 h = record {
     bodies = bodies-closed (declaredBy true (t .datatypes)) (everywhere t) (t .functions) (in-functions 9 h);
     predicates =
-        zip (λ v p. 9 < rank (predScope (globalsOf t) v p)) (λ v p. Unit) (PredClosed t) (λ v p a b. pred-closed t v p a) (inConstraint t) (t .constraint)
-        (each-out 9 (omega arith) (globalsOf t) (inConstraint t) (t .constraint) (in-constraint 9 h)) (all (λ v p. Unit) (λ v p. tt) (inConstraint t) (t .constraint));
+        mapped (λ v p. 9 < rank (predScope (globalsOf t) v p)) (PredClosed t) (pred-closed t) (inConstraint t) (t .constraint)
+        (each-out 9 (omega arith) (globalsOf t) (inConstraint t) (t .constraint) (in-constraint 9 h));
   }
 
   behind-11 : 10 < rank (namesFault t) → Counted t
   behind-11 h =
-      zip (λ v p. 10 < rank (predScope (globalsOf t) v p)) (λ v p. Unit) (PredCounted t) (λ v p a b. pred-counted t v p a) (inConstraint t) (t .constraint)
-      (each-out 10 (omega arith) (globalsOf t) (inConstraint t) (t .constraint) (in-constraint 10 h)) (all (λ v p. Unit) (λ v p. tt) (inConstraint t) (t .constraint))
+      mapped (λ v p. 10 < rank (predScope (globalsOf t) v p)) (PredCounted t) (pred-counted t) (inConstraint t) (t .constraint)
+      (each-out 10 (omega arith) (globalsOf t) (inConstraint t) (t .constraint) (in-constraint 10 h))
 
   -- there is no fault that is judged before 15
   scope-late : 7 < rank (namesFault t)
@@ -234,8 +238,7 @@ module _ (t : Task) where
       not-10 =
           in-both 9 (let z = closed-bodies (declaredBy true (t .datatypes)) (everywhere t) (t .functions) (n .bodies) in omega arith)
           (each-in 9 (omega arith) (globalsOf t) (inConstraint t) (t .constraint) (λ x e. let z = apart-free a x e in omega arith)
-          (zip (PredClosed t) (λ v p. Unit) (λ v p. 9 < rank (predScope (globalsOf t) v p)) (λ v p c u. closed-pred t v p c) (inConstraint t) (t .constraint)
-          (n .predicates) (all (λ v p. Unit) (λ v p. tt) (inConstraint t) (t .constraint))))
+          (mapped (PredClosed t) (λ v p. 9 < rank (predScope (globalsOf t) v p)) (closed-pred t) (inConstraint t) (t .constraint) (n .predicates)))
 
       not-11 : Counted t → 10 < rank (namesFault t)
       not-11 m =
@@ -246,9 +249,6 @@ module _ (t : Task) where
   -- a fault that is judged behind rank k, and not behind the next
   at-rank : (k : ℕ) (f : Fault) → k < rank (namesFault t) → (suc k < rank (namesFault t) → ⊥) → rank f ≡ suc k → namesFault t ≡ f
   at-rank k f h n e = by-rank (namesFault t) f (⊎-elim (λ a. omega arith) (λ a. absurd (n a)) (le-or-lt (rank (namesFault t)) (suc k)))
-    where
-      by-rank : (f g : Fault) → rank f ≡ rank g → f ≡ g
-      by-rank f g e = sym (rank-ranked f) ∙ ap ranked e ∙ rank-ranked g
 
   pub name-rules : NameRules t
   name-rules = record {
