@@ -2,8 +2,7 @@
 use mathlib.Core.Path.{_≡_, refl, sym, ap, _∙_}
 use mathlib.Core.Bool.{Bool, true, false, cond}
 use mathlib.Core.List.{List, [], _∷_, _++_}
-use Prim.Native.Nat.{ℕ, zero, suc, _+_, _-_, _<_, _≤_}
-use native.Mathlib.Numerals.{sub-one}
+use Prim.Native.Nat.{ℕ, suc, _+_, _-_, _<_, _≤_}
 use native.Mathlib.Nat.{add-assoc, zero-add, add-zero}
 use native.Mathlib.Omega.{arith}
 use lib.ListN.{length}
@@ -23,6 +22,7 @@ use Rattle.task.specs.Task.{literallyTrue, predHeads, headsOf, headsIn}
 use Rattle.task.specs.Node.{numberOf, bytesOf, spanOf, constraintOf, ConstraintAt}
 use Rattle.task.proofs.Reading.{coded-at, bind-got, same-value}
 use Rattle.task.proofs.Judging.{lower-assoc, lower-comm, sound-lower}
+use Rattle.task.proofs.Nodes.{constraint-at}
 use Rattle.task.proofs.Pieces.{each-covers}
 use Rattle.task_check.specs.declared.Walked.{Walked}
 use Rattle.task_check.specs.declared.Walked.the-variants as walked-is
@@ -92,19 +92,11 @@ module _ (l : ℕ) (s : List ℕ) (at : ℕ) (around : List (List ℕ)) where
   constraint-none e = rw e
 
   module _ (node : ConstraintNode) (z : l ≡ 0 → ⊥) (h : ConstraintAt s at node) where
-    pub by-node : (n : ConstraintNode) → node ≡ n → decConstraint l s at ≡ constraintOf s (l - 1) (decConstraint (l - 1)) n
-    unfolding decConstraint
-    by-node n e = go l z
-      where
-        go : (k : ℕ) → (k ≡ 0 → ⊥) → decConstraint k s at ≡ constraintOf s (k - 1) (decConstraint (k - 1)) n
-        go zero z = absurd (z refl)
-        go (suc k) z = rw (sub-one (suc k)) (h .is k (decConstraint k) ∙ ap (constraintOf s k (decConstraint k)) e)
-
     pub constraint-pred : (p : ℕ) (c : Counted) → node ≡ constraint-node.Pred p → c ≡ tally predFault predHeads (decPred (l - 1) s p)
         → c ≡ tally (constraintFault around) headsOf (decConstraint l s at)
     unfolding constraintOf constraintFault headsOf
     constraint-pred p c e u =
-        rw (by-node (constraint-node.Pred p) e)
+        rw (constraint-at l s at node (constraint-node.Pred p) z h e)
         (u ∙ parts (sym (after-sound (walked predFault (decPred (l - 1) s p)))) refl
         ∙ ends predFault predHeads (constraintFault around) headsOf (decPred (l - 1) s p) Constraint.pred Sound (λ a. sym (sound-lower (predFault a))) (λ a. refl))
 
@@ -114,19 +106,19 @@ module _ (l : ℕ) (s : List ℕ) (at : ℕ) (around : List (List ℕ)) where
     unfolding constraintOf constraintFault constraintsFault headsOf headsIn
     constraint-conj n p c e u =
         let x = many Constraints.none Constraints.more (decConstraint (l - 1)) n s p in
-        rw (by-node (constraint-node.Conj n p) e)
+        rw (constraint-at l s at node (constraint-node.Conj n p) z h e)
         (u ∙ parts (sym (after-sound (walked (constraintsFault around) x))) refl
         ∙ ends (constraintsFault around) headsIn (constraintFault around) headsOf x Constraint.conj Sound (λ a. sym (sound-lower (constraintsFault around a))) (λ a. refl))
 
     pub constraint-for-all : (p : ℕ) (c : Counted) → node ≡ constraint-node.ForAll p → c ≡ tally (constraintFault around) headsOf (forAll (l - 1) s p)
         → c ≡ tally (constraintFault around) headsOf (decConstraint l s at)
     unfolding constraintOf
-    constraint-for-all p c e u = rw (by-node (constraint-node.ForAll p) e) u
+    constraint-for-all p c e u = rw (constraint-at l s at node (constraint-node.ForAll p) z h e) u
 
     pub constraint-refused : (c : Counted) → node ≡ constraint-node.Refused → c ≡ answer (walked-is.Refused 2) 0
         → c ≡ tally (constraintFault around) headsOf (decConstraint l s at)
     unfolding constraintOf
-    constraint-refused c e u = rw (by-node constraint-node.Refused e) u
+    constraint-refused c e u = rw (constraint-at l s at node constraint-node.Refused z h e) u
 
   -- a member that is a head
   pub constraint-head : (b : Bool) (c : Counted) → b ≡ isHead l s at → b ≡ true → c ≡ tally predFault predHeads (decPred (l - 1) s (at + 1))

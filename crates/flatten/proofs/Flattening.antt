@@ -16,6 +16,7 @@ use Rattle.task.specs.Task.{literallyTrue}
 use Rattle.task.specs.Node.{constraintOf, ConstraintAt}
 use Rattle.task.proofs.Reading.{bind-got, got-refuse}
 use Rattle.task.proofs.Levels.{deeper}
+use Rattle.task.proofs.Nodes.{constraint-at}
 use Rattle.task_check.specs.declared.Walked.{Walked}
 use Rattle.task_check.specs.declared.Walked.the-variants as walked-is
 use Rattle.task_check.specs.Walk.{walked, readTrue}
@@ -24,7 +25,7 @@ use Rattle.path.specs.Offsets.{entries}
 use Rattle.path.proofs.Entries.{leaves-fewer, leaves-pushed}
 use Rattle.constraint_check.specs.Around.{isHead, headerFault, header, forAll}
 use Rattle.constraint_check.proofs.Names.{head-stands, name-inside}
-use Rattle.constraint_check.proofs.Constraints.{by-node, head-node}
+use Rattle.constraint_check.proofs.Constraints.{head-node}
 use Rattle.smt_text.specs.Encoder.{Encoder}
 use Rattle.horn_text.specs.Clauses.{ForAll, bindersOf, guardsOf, flatten-constraint, flatten-constraints}
 use Rattle.horn_text.specs.Script.{write-assert, write-asserts}
@@ -171,25 +172,25 @@ module _ (enc : Encoder) (r : Range) (path : Res (List ForAll)) (pr : Progress) 
     module _ (node : ConstraintNode) (z : l ≡ 0 → ⊥) (h : ConstraintAt s at node) where
       pub node-refused : node ≡ constraint-node.Refused → PutsUnder (clauseParts enc) r path (decConstraint l s at) (writing pr xs) w' q
       unfolding PutsUnder Puts constraintOf
-      node-refused e fs t g = rw (by-node l s at [] node z h constraint-node.Refused e) (runs-refused (λ v c. puts r v (clauseParts enc fs c)) (writing pr xs) w' q 2)
+      node-refused e fs t g = rw (constraint-at l s at node constraint-node.Refused z h e) (runs-refused (λ v c. puts r v (clauseParts enc fs c)) (writing pr xs) w' q 2)
 
       pub node-pred : (p : ℕ) (m : Moved) → node ≡ constraint-node.Pred p → To m p pr → PutsUnder (headParts enc) r path (decPred (l - 1) s (m .at)) (writing (m .progress) xs) w' q
           → PutsUnder (clauseParts enc) r path (decConstraint l s at) (writing pr xs) w' q
       unfolding constraintOf headParts clauseParts
-      node-pred p m e i u = rw (by-node l s at [] node z h (constraint-node.Pred p) e) (under-map Constraint.pred (decPred (l - 1) s p) (rw (i .0, i .1) at u))
+      node-pred p m e i u = rw (constraint-at l s at node (constraint-node.Pred p) z h e) (under-map Constraint.pred (decPred (l - 1) s p) (rw (i .0, i .1) at u))
 
       pub node-conj : (n p : ℕ) (m : Row) → node ≡ constraint-node.Conj n p → (m .from .at ≡ p) × (m .from .progress ≡ pr) × (m .left ≡ n)
           → PutsUnder (memberParts enc) r path (many Constraints.none Constraints.more (decConstraint (l - 1)) (m .left) s (m .from .at)) (writing (m .from .progress) xs) w' q
           → PutsUnder (clauseParts enc) r path (decConstraint l s at) (writing pr xs) w' q
       unfolding constraintOf memberParts clauseParts flatten-constraint
       node-conj n p m e i u =
-          rw (by-node l s at [] node z h (constraint-node.Conj n p) e)
+          rw (constraint-at l s at node (constraint-node.Conj n p) z h e)
           (under-map Constraint.conj (many Constraints.none Constraints.more (decConstraint (l - 1)) n s p) (rw (i .0, i .1, i .2) at u))
 
       pub node-for-all : (p : ℕ) (m : Moved) → node ≡ constraint-node.ForAll p → To m p pr → PutsUnder (clauseParts enc) r path (forAll (l - 1) s (m .at)) (writing (m .progress) xs) w' q
           → PutsUnder (clauseParts enc) r path (decConstraint l s at) (writing pr xs) w' q
       unfolding constraintOf
-      node-for-all p m e i u = rw (by-node l s at [] node z h (constraint-node.ForAll p) e) (rw (i .0, i .1) at u)
+      node-for-all p m e i u = rw (constraint-at l s at node (constraint-node.ForAll p) z h e) (rw (i .0, i .1) at u)
 
 -- MEMBERS
 

@@ -187,6 +187,6 @@ pub fn inspect(file: &[u8], table: &mut [u16]) -> Inspected
     let Inspected::Task(b, declarations, heads) = sound else {
         return sound;
     };
-    let fault = scope::check_names(file, b, table);
+    let fault = scope::judge_names(file, b, table);
     judge(b, declarations, heads, fault)
 }

@@ -21,6 +21,7 @@ use Rattle.task.specs.Fault.{lower, unless, each, sortFault}
 use Rattle.task.specs.Scope.{predScope, constraintNames}
 use Rattle.task.specs.Node.{numberOf, bytesOf, spanOf, constraintOf, ConstraintAt}
 use Rattle.task.proofs.Judging.{sound-lower}
+use Rattle.task.proofs.Nodes.{constraint-at}
 use Rattle.task.proofs.Covering.{forward, covers-many, covers-less, covers-number}
 use Rattle.task.proofs.Pieces.{each-covers, wide-names}
 use Rattle.task_check.specs.declared.Walked.{Walked}
@@ -29,7 +30,6 @@ use Rattle.task_check.specs.Walk.{walked, after}
 use Rattle.task_check.proofs.Rows.{Fold, after-sound, next-is, refused-is}
 use Rattle.task_check.proofs.Exprs.{stops, goes, lasts}
 use Rattle.constraint_check.specs.Around.{forAll}
-use Rattle.constraint_check.proofs.Constraints.{by-node}
 use Rattle.names.specs.declared.Found.{Found}
 use Rattle.names.specs.declared.Found.the-variants.{Entry, Nothing}
 use Rattle.names.specs.Table.{entries, lastOf, fits}
@@ -88,14 +88,14 @@ module _ (s t : List ℕ) (l at : ℕ) (node : ConstraintNode) (z : l ≡ 0 → 
   pub judge-pred : (p : ℕ) (w : Walked) (u : List ℕ) → node ≡ constraint-node.Pred p → (w ≡ walked (predIn s t) (decPred (l - 1) s p)) × Restored s t u
       → (w ≡ walked (constraintIn s t) (decConstraint l s at)) × Restored s t u
   unfolding constraintOf constraintNames
-  judge-pred p w u e k = (rw (by-node l s at [] node z h (constraint-node.Pred p) e) (made (predIn s t) Constraint.pred (decPred (l - 1) s p) w (λ a. refl) (k .0)), k .1)
+  judge-pred p w u e k = (rw (constraint-at l s at node (constraint-node.Pred p) z h e) (made (predIn s t) Constraint.pred (decPred (l - 1) s p) w (λ a. refl) (k .0)), k .1)
 
   pub judge-conj : (n p : ℕ) (w : Walked) (u : List ℕ) → node ≡ constraint-node.Conj n p
       → (w ≡ walked (constraintsIn s t) (many Constraints.none Constraints.more (decConstraint (l - 1)) n s p)) × Restored s t u
       → (w ≡ walked (constraintIn s t) (decConstraint l s at)) × Restored s t u
   unfolding constraintOf constraintNames
   judge-conj n p w u e k = (
-    rw (by-node l s at [] node z h (constraint-node.Conj n p) e)
+    rw (constraint-at l s at node (constraint-node.Conj n p) z h e)
         (made (constraintsIn s t) Constraint.conj (many Constraints.none Constraints.more (decConstraint (l - 1)) n s p) w (λ a. refl) (k .0)),
     k .1,
   )
@@ -103,11 +103,11 @@ module _ (s t : List ℕ) (l at : ℕ) (node : ConstraintNode) (z : l ≡ 0 → 
   pub judge-for-all : (p : ℕ) (w : Walked) (u : List ℕ) → node ≡ constraint-node.ForAll p → (w ≡ walked (constraintIn s t) (forAll (l - 1) s p)) × Restored s t u
       → (w ≡ walked (constraintIn s t) (decConstraint l s at)) × Restored s t u
   unfolding constraintOf
-  judge-for-all p w u e k = (rw (by-node l s at [] node z h (constraint-node.ForAll p) e) (k .0), k .1)
+  judge-for-all p w u e k = (rw (constraint-at l s at node (constraint-node.ForAll p) z h e) (k .0), k .1)
 
   pub judge-refused : node ≡ constraint-node.Refused → Space s t at → (walked-is.Refused 2 ≡ walked (constraintIn s t) (decConstraint l s at)) × Restored s t t
   unfolding constraintOf
-  judge-refused e c = (rw (by-node l s at [] node z h constraint-node.Refused e), restored-all s t (c .chained))
+  judge-refused e c = (rw (constraint-at l s at node constraint-node.Refused z h e), restored-all s t (c .chained))
 
 -- WHAT A FORALL'S NAME IS KNOWN IN
 

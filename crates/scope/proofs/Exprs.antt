@@ -3,8 +3,7 @@ use mathlib.Core.Path.{_≡_, refl, sym, ap, _∙_}
 use mathlib.Core.Bool.{Bool, true, false}
 use mathlib.Core.List.{List, [], _∷_, _++_, map}
 use mathlib.Core.Option.{Option}
-use Prim.Native.Nat.{ℕ, zero, suc, _+_, _*_, _-_, _^_, _≤_, _<_}
-use native.Mathlib.Numerals.{sub-one}
+use Prim.Native.Nat.{ℕ, _+_, _*_, _-_, _^_, _≤_, _<_}
 use native.Mathlib.Omega.{arith}
 use lib.ListN.{length}
 use Rattle.smtlib.specs.Lexicon.{isOne}
@@ -25,6 +24,7 @@ use Rattle.task.specs.Fault.{lower, each, binderFault, givenFault}
 use Rattle.task.specs.Scope.{knownFault, exprScope}
 use Rattle.task.specs.Node.{numberOf, bytesOf, spanOf, exprOf, ExprBehind, ExprAt}
 use Rattle.task.proofs.Judging.{sound-lower}
+use Rattle.task.proofs.Nodes.{expr-at}
 use Rattle.task.proofs.Covering.{forward, covers-many, covers-number}
 use Rattle.task.proofs.Pieces.{each-covers, wide-names, givens}
 use Rattle.item_check.proofs.Walks.{many-size}
@@ -47,7 +47,7 @@ use Rattle.scope.specs.declared.ScopeParts.{ScopeParts}
 use Rattle.scope.specs.declared.ScopeParts.the-variants as scope-parts
 use Rattle.scope.specs.Known.{ctorsIn, varsIn, exprIn, exprsIn, Space}
 use Rattle.scope.specs.Walk.{scopeParts, letForm}
-use Rattle.scope.proofs.Tables.{space-on, space-kept, walked-on, vars-kept, ctors-kept, vars-more, ctors-more, bound-one, boundAll, row-bound, row-space, row-ends}
+use Rattle.scope.proofs.Tables.{space-on, space-kept, walked-on, vars-kept, ctors-kept, vars-more, ctors-more, bound-one, boundAll, row-few, row-bound, row-space, row-ends}
 
 -- A NAME
 
@@ -148,13 +148,8 @@ expr-none s t l at e c = (rw e, restored-all s t (c .chained))
 
 module _ (s t : List ℕ) (l at : ℕ) (node : ExprNode) (parts parts' : ScopeParts) (z : l ≡ 0 → ⊥) (h : ExprAt s at node) (e : parts ≡ scopeParts s t node) (e' : parts ≡ parts') where
   by-parts : walkParts s t (l - 1) at parts' ≡ walked (exprIn s t) (decExpr l s at)
-  unfolding decExpr
-  by-parts = go l z
-    where
-      go : (k : ℕ) → (k ≡ 0 → ⊥) → walkParts s t (k - 1) at parts' ≡ walked (exprIn s t) (decExpr k s at)
-      go zero z = absurd (z refl)
-      go (suc k) z =
-          rw (sub-one (suc k)) (ap (walkParts s t k at) (sym e' ∙ e) ∙ sym (node-walks s t k at node (h .behind)) ∙ ap (walked (exprIn s t)) (sym (h .is k (decExpr k))))
+  by-parts =
+      ap (walkParts s t (l - 1) at) (sym e' ∙ e) ∙ sym (node-walks s t (l - 1) at node (h .behind)) ∙ ap (walked (exprIn s t)) (sym (expr-at l s at node node z h refl))
 
   by-behind : Behind s at parts'
   by-behind = rw (sym e' ∙ e) (node-behind s t l at node (h .behind))
@@ -314,17 +309,11 @@ module _ (s t : List ℕ) (l n at : ℕ) (c : Space s t at) (v : Walked) (e : v 
           omega arith
 
       few : 3 * (length (entries s t) + n) ≤ length s
-      few = go n refl
-        where
-          go : (k : ℕ) → n ≡ k → 3 * (length (entries s t) + n) ≤ length s
-          go zero z = let q = c .few in omega arith
-          go (suc k) z =
-              let y = rows-wide l n .covered s at bs p g in
-              let m = y .room in
-              let j = many-are in
-              let i = y .inside (omega arith) in
-              let q = roomy in
-              omega arith
+      few =
+          let y = rows-wide l n .covered s at bs p g in
+          let m = y .room in
+          let j = many-are in
+          row-few n (length (entries s t)) p (length s) (c .few) (λ h. y .inside (omega arith)) roomy
 
       body-space : Space s u p
       body-space = row-space (λ b. b .name) (binder l) s t u n at r bs p g w (c .short) (c .words) roomy few

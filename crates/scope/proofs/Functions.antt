@@ -3,7 +3,7 @@ use mathlib.Core.Path.{_≡_, refl, sym, ap, _∙_}
 use mathlib.Core.Bool.{Bool, true, false}
 use mathlib.Core.List.{List, [], _∷_, _++_, map}
 use mathlib.Core.Option.{Option, none, some}
-use Prim.Native.Nat.{ℕ, zero, suc, _+_, _*_, _-_, _≤_}
+use Prim.Native.Nat.{ℕ, _+_, _*_, _-_, _≤_}
 use native.Mathlib.Omega.{arith}
 use lib.ListN.{length}
 use borrow.Author.Tests.{eq-eqb, ne-eqb}
@@ -39,7 +39,7 @@ use Rattle.declared.specs.Symbols.{alone, rowSymbols}
 use Rattle.declared.specs.Gather.{Collects}
 use Rattle.scope.specs.Known.{ctorsIn, varsIn, exprIn, Space}
 use Rattle.scope.specs.Walk.{bodyForm, perhapsBody, signatureForm, functionForm, bodyIn, perhapsIn}
-use Rattle.scope.proofs.Tables.{space-on, walked-on, vars-more, ctors-more, row-bound, row-space, row-ends}
+use Rattle.scope.proofs.Tables.{space-on, walked-on, vars-more, ctors-more, row-few, row-bound, row-space, row-ends}
 
 -- A BODY
 
@@ -79,17 +79,11 @@ module _ (s t : List ℕ) (at inputs : ℕ) (c : Space s t at × (3 * length (en
               omega arith
 
           few : 3 * (length (entries s t) + n) ≤ length s
-          few = go n refl
-            where
-              go : (k : ℕ) → n ≡ k → 3 * (length (entries s t) + n) ≤ length s
-              go zero h = let d = c .0 .few in omega arith
-              go (suc k) h =
-                  let y = names-wide n .covered s p xs q g in
-                  let a = y .room in
-                  let j = many-size [] _∷_ length refl (λ a r. refl) name s n p xs q g in
-                  let b = y .inside (omega arith) in
-                  let d = roomy in
-                  omega arith
+          few =
+              let y = names-wide n .covered s p xs q g in
+              let a = y .room in
+              let j = many-size [] _∷_ length refl (λ a r. refl) name s n p xs q g in
+              row-few n (length (entries s t)) q (length s) (c .0 .few) (λ h. y .inside (omega arith)) roomy
 
           args-space : Space s u q
           args-space = row-space (λ x. x) name s t u n p r xs q g w (c .0 .short) (c .0 .words) roomy few

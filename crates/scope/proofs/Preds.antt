@@ -23,13 +23,13 @@ use Rattle.task.specs.Fault.{each}
 use Rattle.task.specs.Scope.{Globals, exprsNumber, argumentsFault, predScope}
 use Rattle.task.specs.Node.{numberOf, bytesOf, spanOf, predOf, PredAt}
 use Rattle.task.proofs.Judging.{sound-lower}
+use Rattle.task.proofs.Nodes.{pred-at}
 use Rattle.item_check.proofs.Walks.{many-size}
 use Rattle.task_check.specs.declared.Walked.{Walked}
 use Rattle.task_check.specs.declared.Walked.the-variants as walked-is
 use Rattle.task_check.specs.Walk.{walked, after}
 use Rattle.task_check.proofs.Rows.{Fold, after-sound}
 use Rattle.task_check.proofs.Exprs.{lasts}
-use Rattle.task_check.proofs.Preds.{pred-at}
 use Rattle.names.specs.declared.Found.{Found}
 use Rattle.names.specs.declared.Found.the-variants.{Entry, Nothing}
 use Rattle.names.specs.Table.{Symbol, offsetOf, entries, orElse, lastFrom, lastOf, fits, namesOf, Chained}

@@ -1,7 +1,7 @@
 -- What a table says of names before and behind a scope, and pieces in a row that are walked with it.
 use mathlib.Core.Path.{_≡_, refl, sym, ap, _∙_}
 use mathlib.Core.List.{List, [], _∷_, _++_, map, append-nil}
-use Prim.Native.Nat.{ℕ, _+_, _*_, _-_, _≤_, _<_}
+use Prim.Native.Nat.{ℕ, zero, suc, _+_, _*_, _-_, _≤_, _<_}
 use native.Mathlib.Omega.{arith}
 use lib.ListN.{length, length-append}
 use borrow.Author.Tests.{lt-ltb, le-leb}
@@ -148,6 +148,12 @@ rows-bound own (a ∷ ys) = ap (λ (es : List Symbol). symbol 6 (own a) ∷ es) 
 names-length : {A : Type 0} (own : A → List ℕ) (ys : List A) → length (map own ys) ≡ length ys
 names-length own [] = refl
 names-length own (a ∷ ys) = let h = names-length own ys in omega arith
+
+-- A row of n names is in a file with space for the entries before it, if it ends where three bytes belong to each of them all: where there are names, they
+-- end in the file.
+pub row-few : (n m p k : ℕ) → 3 * m ≤ k → (0 < n → p ≤ k) → 3 * (m + n) ≤ p → 3 * (m + n) ≤ k
+row-few zero m p k few inside room = omega arith
+row-few (suc n) m p k few inside room = let i = inside (omega arith) in omega arith
 
 -- a row of pieces with a name each was pushed: there is room for it where three bytes before its end belong to each entry
 module _ {A : Type 0} (own : A → List ℕ) (d : Decoder A) (s t u : List ℕ) (n at r : ℕ) (ys : List A) (p : ℕ) (e : many [] _∷_ d n s at ≡ got ys p)

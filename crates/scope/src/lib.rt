@@ -431,7 +431,7 @@ fn scope_functions(file: &[u8], at: usize, end: usize, table: &mut [u16]) -> Fau
 }
 
 // The fault of the names of a task that has no other fault. The names that it declares are put into an empty table.
-pub fn check_names(file: &[u8], b: Bounds, table: &mut [u16]) -> Fault
+pub fn judge_names(file: &[u8], b: Bounds, table: &mut [u16]) -> Fault
     requires { ⌜ Sectioned (now file) b × Blank (now table) ⌝ }
     requires { ⌜ 1026 + length (now file) ≤ length (now table) ⌝ }
     ensures { λ r. ⌜ NamesJudged (now (file .entry)) r (now (table .exit)) ⌝ }

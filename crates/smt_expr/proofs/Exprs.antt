@@ -3,8 +3,7 @@ use mathlib.Core.Path.{_≡_, refl, sym, ap, _∙_}
 use mathlib.Core.Bool.{Bool, true, false, cond}
 use mathlib.Core.List.{List, [], _∷_}
 use mathlib.Core.Option.{Option, none, some}
-use Prim.Native.Nat.{ℕ, zero, suc, _-_}
-use native.Mathlib.Numerals.{sub-one}
+use Prim.Native.Nat.{ℕ, _-_}
 use Rattle.smtlib.specs.Lexicon.{bytes}
 use Rattle.task.specs.declared.BinOp.{BinOp}
 use Rattle.task.specs.declared.BinRel.{BinRel}
@@ -21,6 +20,7 @@ use Rattle.task.specs.Decode.{Res, got, refuse, bind, number, many, binder, giv
 use Rattle.task.specs.Fault.{givenFault, exprFault}
 use Rattle.task.specs.Node.{numberOf, bytesOf, exprOf, ExprAt}
 use Rattle.task.proofs.Reading.{bind-got}
+use Rattle.task.proofs.Nodes.{expr-at}
 use Rattle.task_check.specs.declared.Walked.{Walked}
 use Rattle.task_check.specs.declared.Walked.the-variants as walked-is
 use Rattle.task_check.specs.Walk.{walked}
@@ -45,11 +45,6 @@ ends-at text d o o' r q e w = rw e w
 pub expr-none : (enc : Encoder) (l : ℕ) (s : List ℕ) (at : ℕ) (o o' : Output) (r : ℕ) → l ≡ 0 → Sends (write-expr enc) (decExpr l s at) o o' r
 unfolding decExpr
 expr-none enc l s at o o' r e = rw e (sends-refused (write-expr enc) o o' r 3)
-
-expr-at : (l : ℕ) (s : List ℕ) (at : ℕ) (n n' : ExprNode) → (l ≡ 0 → ⊥) → ExprAt s at n → n ≡ n' → decExpr l s at ≡ exprOf s (l - 1) (decExpr (l - 1)) n'
-unfolding decExpr
-expr-at zero s at n n' z h e = absurd (z refl)
-expr-at (suc l) s at n n' z h e = rw (sub-one (suc l)) (h .is l (decExpr l) ∙ ap (exprOf s l (decExpr l)) e)
 
 module _ (enc : Encoder) (l : ℕ) (s : List ℕ) (at : ℕ) (n n' : ExprNode) (o o' : Output) (r : ℕ) where
   pub expr-arm : (l ≡ 0 → ⊥) → ExprAt s at n → n ≡ n' → Sends (write-expr enc) (exprOf s (l - 1) (decExpr (l - 1)) n') o o' r

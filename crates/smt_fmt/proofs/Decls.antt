@@ -1,10 +1,9 @@
 -- What the steps of the writers of predicates and declarations add up to.
 use mathlib.Core.Path.{_≡_, refl, sym, ap, _∙_}
-use mathlib.Core.Bool.{Bool}
 use mathlib.Core.List.{List, [], _∷_}
 use mathlib.Core.Option.{none}
-use Prim.Native.Nat.{ℕ, zero, suc, _+_, _-_, _<_, _≤_}
-use native.Mathlib.Numerals.{add-one, sub-one}
+use Prim.Native.Nat.{ℕ, suc, _+_, _-_, _<_, _≤_}
+use native.Mathlib.Numerals.{add-one}
 use native.Mathlib.Omega.{arith}
 use borrow.Author.Tests.{ne-eqb}
 use Rattle.smtlib.specs.Lexicon.{bytes}
@@ -19,6 +18,7 @@ use Rattle.task.specs.declared.SpanRead.the-variants as span-is
 use Rattle.task.specs.Ast.{Sorts, Expr, Exprs, Pred}
 use Rattle.task.specs.Decode.{Res, bind, number, many, name, binder, decSort, decExpr, decPred, dataCtor, datatype, constant, kvar, deepest}
 use Rattle.task.specs.Node.{numberOf, bytesOf, spanOf, predOf, PredAt}
+use Rattle.task.proofs.Nodes.{pred-at}
 use Rattle.smt_text.specs.Encoder.{Encoder}
 use Rattle.smt_text.specs.Text.{spaced, sexp-list, write-name, write-parameter, write-sort, write-expr, write-pred, write-ctor, write-ctors, write-parameters, write-datatype-decl, write-const-decl, write-kvar-decl}
 use Rattle.output.specs.Emit.{Output, emit, emits, Sends}
@@ -31,11 +31,6 @@ use Rattle.smt_fmt.specs.Items.{kvarText, ctorList, bodyText, openText, 
 pub pred-none : (enc : Encoder) (l : ℕ) (s : List ℕ) (at : ℕ) (o o' : Output) (r : ℕ) → l ≡ 0 → Sends (write-pred enc) (decPred l s at) o o' r
 unfolding decPred
 pred-none enc l s at o o' r e = rw e (sends-refused (write-pred enc) o o' r 3)
-
-pub pred-at : (l : ℕ) (s : List ℕ) (at : ℕ) (n n' : PredNode) → (l ≡ 0 → ⊥) → PredAt s at n → n ≡ n' → decPred l s at ≡ predOf s (decExpr (l - 1)) n'
-unfolding decPred
-pred-at zero s at n n' z h e = absurd (z refl)
-pred-at (suc l) s at n n' z h e = rw (sub-one (suc l)) (h .is (decExpr l) ∙ ap (predOf s (decExpr l)) e)
 
 module _ (enc : Encoder) (l : ℕ) (s : List ℕ) (at : ℕ) (n : PredNode) (o o' : Output) (r : ℕ) (z : l ≡ 0 → ⊥) (h : PredAt s at n) where
   pub kvar-arm : (x : Span) (k p : ℕ) → n ≡ pred-node.KVar x k p → Sends (kvarText enc (bytesOf s x)) (many Exprs.none Exprs.more (decExpr (l - 1)) k s p) o o' r

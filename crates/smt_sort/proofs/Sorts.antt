@@ -2,8 +2,7 @@
 use mathlib.Core.Path.{_≡_, refl, sym, ap, _∙_}
 use mathlib.Core.Bool.{Bool, true, false, not, cond}
 use mathlib.Core.List.{List, [], _∷_}
-use Prim.Native.Nat.{ℕ, zero, suc, _-_}
-use native.Mathlib.Numerals.{sub-one}
+use Prim.Native.Nat.{ℕ, _-_}
 use Rattle.smtlib.specs.Lexicon.{bytes, isOne}
 use Rattle.task.specs.declared.Fault.{Fault}
 use Rattle.task.specs.declared.Span.{Span}
@@ -15,6 +14,7 @@ use Rattle.task.specs.Ast.{SortCtor, Sort, Sorts}
 use Rattle.task.specs.Decode.{got, bind, many, name, binder, decSort}
 use Rattle.task.specs.Fault.{sortsFault}
 use Rattle.task.specs.Node.{bytesOf, spanOf, sortOf, SortAt}
+use Rattle.task.proofs.Nodes.{sort-at}
 use Rattle.task_check.specs.declared.Walked.{Walked}
 use Rattle.task_check.specs.declared.Walked.the-variants as walked-is
 use Rattle.task_check.specs.Walk.{walked}
@@ -61,11 +61,6 @@ ctor-is s c c' o o' e w = w ∙ ap (λ (k : code.SortCtor). emits o (write-sort-
 pub sort-none : (enc : Encoder) (l : ℕ) (s : List ℕ) (at : ℕ) (o o' : Output) (r : ℕ) → l ≡ 0 → Sends (write-sort enc) (decSort l s at) o o' r
 unfolding decSort
 sort-none enc l s at o o' r e = rw e (sends-refused (write-sort enc) o o' r 3)
-
-sort-at : (l : ℕ) (s : List ℕ) (at : ℕ) (n n' : SortNode) → (l ≡ 0 → ⊥) → SortAt s at n → n ≡ n' → decSort l s at ≡ sortOf s (decSort (l - 1)) n'
-unfolding decSort SortAt
-sort-at zero s at n n' z h e = absurd (z refl)
-sort-at (suc l) s at n n' z h e = rw (sub-one (suc l)) (h (decSort l) ∙ ap (sortOf s (decSort l)) e)
 
 module _ (enc : Encoder) (l : ℕ) (s : List ℕ) (at : ℕ) (n n' : SortNode) (o o' : Output) (r : ℕ) where
   pub sort-arm : (l ≡ 0 → ⊥) → SortAt s at n → n ≡ n' → Sends (write-sort enc) (sortOf s (decSort (l - 1)) n') o o' r

@@ -1,6 +1,7 @@
 pub mod Reading
 pub mod Numbers
 pub mod Forms
+pub mod Nodes
 pub mod Covering
 pub mod Pieces
 pub mod Judging

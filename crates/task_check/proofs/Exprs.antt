@@ -3,8 +3,7 @@ use mathlib.Core.Path.{_≡_, refl, sym, ap, _∙_}
 use mathlib.Core.Bool.{Bool, true, false, not}
 use mathlib.Core.List.{List, [], _∷_}
 use mathlib.Core.Option.{Option, none, some}
-use Prim.Native.Nat.{ℕ, zero, suc, _+_, _-_, _*_, _^_}
-use native.Mathlib.Numerals.{sub-one}
+use Prim.Native.Nat.{ℕ, _+_, _-_, _*_, _^_}
 use native.Mathlib.Omega.{arith}
 use Rattle.task.specs.declared.Fault.{Fault}
 use Rattle.task.specs.declared.Fault.the-variants.{Sound, WKVar}
@@ -21,6 +20,7 @@ use Rattle.task.specs.Decode.{Res, got, refuse, bind, give, _▹_, number, many
 use Rattle.task.specs.Fault.{lower, each, nameFault, sortFault, binderFault, isGiven, givenFault, exprFault, exprsFault}
 use Rattle.task.specs.Node.{numberOf, bytesOf, spanOf, exprOf, ExprAt}
 use Rattle.task.proofs.Judging.{lower-assoc, sound-lower}
+use Rattle.task.proofs.Nodes.{expr-at}
 use Rattle.task_check.specs.declared.Walked.{Walked}
 use Rattle.task_check.specs.declared.Walked.the-variants as walked-is
 use Rattle.task_check.specs.declared.ExprParts.{ExprParts}
@@ -135,13 +135,8 @@ expr-none l s at head e = rw e
 module _ (l : ℕ) (s : List ℕ) (at : ℕ) (head : Bool) (node : ExprNode) (parts : ExprParts) where
   by-parts : (parts' : ExprParts) → (l ≡ 0 → ⊥) → ExprAt s at node → parts ≡ exprParts s head node → parts ≡ parts'
       → walkParts s (l - 1) parts' ≡ walked (exprFault head) (decExpr l s at)
-  unfolding decExpr
-  by-parts parts' z h e e' = go l z
-    where
-      go : (k : ℕ) → (k ≡ 0 → ⊥) → walkParts s (k - 1) parts' ≡ walked (exprFault head) (decExpr k s at)
-      go zero z = absurd (z refl)
-      go (suc k) z =
-          rw (sub-one (suc k)) (ap (walkParts s k) (sym e' ∙ e) ∙ sym (node-walks s k head node) ∙ ap (walked (exprFault head)) (sym (h .is k (decExpr k))))
+  by-parts parts' z h e e' =
+      ap (walkParts s (l - 1)) (sym e' ∙ e) ∙ sym (node-walks s (l - 1) head node) ∙ ap (walked (exprFault head)) (sym (expr-at l s at node node z h refl))
 
   pub expr-row : (n p : ℕ) (f : Fault) (v w : Walked) → (l ≡ 0 → ⊥) → ExprAt s at node → parts ≡ exprParts s head node → parts ≡ expr-parts.Row n p f
       → v ≡ walked exprsFault (many Exprs.none Exprs.more (decExpr (l - 1)) n s p) → w ≡ after f v → w ≡ walked (exprFault head) (decExpr l s at)

@@ -2,8 +2,7 @@
 use mathlib.Core.Path.{_≡_, refl, sym, ap, _∙_}
 use mathlib.Core.Bool.{Bool, true, false}
 use mathlib.Core.List.{List, [], _∷_}
-use Prim.Native.Nat.{ℕ, zero, suc, _-_}
-use native.Mathlib.Numerals.{sub-one}
+use Prim.Native.Nat.{ℕ, suc, _-_}
 use native.Mathlib.Omega.{arith}
 use types.Run.{OneOf, miss}
 use denote.Enum.Declared.{tagOf}
@@ -22,6 +21,7 @@ use Rattle.task.specs.Fault.{nameFault, exprFault, exprsFault, predFault}
 use Rattle.task.specs.Task.{isTrue, literallyTrue}
 use Rattle.task.specs.Node.{bytesOf, exprOf, ExprAt, predOf, PredAt}
 use Rattle.task.proofs.Judging.{sound-lower}
+use Rattle.task.proofs.Nodes.{pred-at}
 use Rattle.task_check.specs.declared.Walked.{Walked}
 use Rattle.task_check.specs.declared.Walked.the-variants as walked-is
 use Rattle.task_check.specs.Walk.{walked, after, readTrue}
@@ -29,11 +29,6 @@ use Rattle.task_check.proofs.Rows.{after-sound}
 use Rattle.task_check.proofs.Exprs.{lasts}
 
 -- a predicate by its node
-pub pred-at : (l : ℕ) (s : List ℕ) (at : ℕ) (n n' : PredNode) → (l ≡ 0 → ⊥) → PredAt s at n → n ≡ n' → decPred l s at ≡ predOf s (decExpr (l - 1)) n'
-unfolding decPred
-pred-at zero s at n n' z h e = absurd (z refl)
-pred-at (suc l) s at n n' z h e = rw (sub-one (suc l)) (h .is (decExpr l) ∙ ap (predOf s (decExpr l)) e)
-
 pub pred-none : (l : ℕ) (s : List ℕ) (at : ℕ) → l ≡ 0 → walked-is.Refused 3 ≡ walked predFault (decPred l s at)
 unfolding decPred
 pred-none l s at e = rw e

@@ -2,8 +2,7 @@
 use mathlib.Core.Path.{_≡_, refl, sym, ap, _∙_}
 use mathlib.Core.Bool.{Bool, true, false}
 use mathlib.Core.List.{List}
-use Prim.Native.Nat.{ℕ, zero, suc, _-_}
-use native.Mathlib.Numerals.{sub-one}
+use Prim.Native.Nat.{ℕ, _-_}
 use Rattle.task.specs.declared.Fault.{Fault}
 use Rattle.task.specs.declared.SortNode.{SortNode}
 use Rattle.task.specs.declared.SortNode.the-variants as sort-node
@@ -12,6 +11,7 @@ use Rattle.task.specs.Decode.{Res, got, refuse, bind, Decoder, give, _▹_, man
 use Rattle.task.specs.Fault.{lower, nameFault, widthFault, sortFault, sortsFault}
 use Rattle.task.specs.Node.{bytesOf, sortOf, SortAt}
 use Rattle.task.proofs.Judging.{lower-assoc, sound-lower}
+use Rattle.task.proofs.Nodes.{sort-at}
 use Rattle.task_check.specs.declared.Walked.{Walked}
 use Rattle.task_check.specs.declared.Walked.the-variants as walked-is
 use Rattle.task_check.specs.declared.SortParts.{SortParts}
@@ -72,13 +72,8 @@ sort-none l s at under e = rw e
 module _ (l : ℕ) (s : List ℕ) (at : ℕ) (under : Bool) (node : SortNode) (parts : SortParts) where
   by-parts : (parts' : SortParts) → (l ≡ 0 → ⊥) → SortAt s at node → parts ≡ sortParts s under node → parts ≡ parts'
       → walkParts s (decSort (l - 1)) parts' ≡ walked (sortFault under) (decSort l s at)
-  unfolding decSort SortAt
-  by-parts parts' z h e e' = go l z
-    where
-      go : (k : ℕ) → (k ≡ 0 → ⊥) → walkParts s (decSort (k - 1)) parts' ≡ walked (sortFault under) (decSort k s at)
-      go zero z = absurd (z refl)
-      go (suc k) z =
-          rw (sub-one (suc k)) (ap (walkParts s (decSort k)) (sym e' ∙ e) ∙ sym (node-walks s (decSort k) under node) ∙ ap (walked (sortFault under)) (sym (h (decSort k))))
+  by-parts parts' z h e e' =
+      ap (walkParts s (decSort (l - 1))) (sym e' ∙ e) ∙ sym (node-walks s (decSort (l - 1)) under node) ∙ ap (walked (sortFault under)) (sym (sort-at l s at node node z h refl))
 
   pub sort-row : (n p : ℕ) (f : Fault) (v w : Walked) → (l ≡ 0 → ⊥) → SortAt s at node → parts ≡ sortParts s under node → parts ≡ sort-parts.Row n p f
       → v ≡ walked sortsFault (many Sorts.none Sorts.more (decSort (l - 1)) n s p) → w ≡ after f v → w ≡ walked (sortFault under) (decSort l s at)

@@ -16,8 +16,8 @@ enum-told c = search needs
 returns : tie.Need-returns
 returns c = refused-before _ _ (c .before .before .check-pieces .ensures) _ (c .before .before .before .before .before .pre) _ (c .enum-told .given .1)
 
-check-names-requires : tie.Need-check-names-requires
-check-names-requires c κs = ((checked-sections _ _ _ _ (checked _ _ (c .before .before .before .before .check-pieces .ensures) _ _ _ (c .before .before .sound .given .1)), c .before .before .before .before .before .before .before .pre .blank), checked-words _ _ _ _ (checked _ _ (c .before .before .before .before .check-pieces .ensures) _ _ _ (c .before .before .sound .given .1)) _ (c .before .before .before .before .before .before .before .pre))
+judge-names-requires : tie.Need-judge-names-requires
+judge-names-requires c κs = ((checked-sections _ _ _ _ (checked _ _ (c .before .before .before .before .check-pieces .ensures) _ _ _ (c .before .before .sound .given .1)), c .before .before .before .before .before .before .before .pre .blank), checked-words _ _ _ _ (checked _ _ (c .before .before .before .before .check-pieces .ensures) _ _ _ (c .before .before .sound .given .1)) _ (c .before .before .before .before .before .before .before .pre))
 
 judge-requires : tie.Need-judge-requires
 judge-requires c κs = search needs
@@ -26,7 +26,7 @@ same-length : tie.Need-same-length
 same-length c = search needs
 
 returns-2 : tie.Need-returns-2
-returns-2 c = names-answer _ _ _ _ (checked _ _ (c .before .before .before .before .before .before .before .before .check-pieces .ensures) _ _ _ (c .before .before .before .before .before .before .sound .given .1)) _ _ _ (c .before .before .before .check-names .ensures) (c .judge .ensures)
+returns-2 c = names-answer _ _ _ _ (checked _ _ (c .before .before .before .before .before .before .before .before .check-pieces .ensures) _ _ _ (c .before .before .before .before .before .before .sound .given .1)) _ _ _ (c .before .before .before .judge-names .ensures) (c .judge .ensures)
 
 pub inspect-spec : {M : Type 1} → statement M
 inspect-spec =
@@ -36,7 +36,7 @@ inspect-spec =
     enum-known-sound
     enum-told
     returns
-    check-names-requires
+    judge-names-requires
     judge-requires
     same-length
     returns-2)

@@ -1,8 +1,8 @@
--- check_names declares, judges the bodies, declares KVars, and judges the constraint.
+-- judge_names declares, judges the bodies, declares KVars, and judges the constraint.
 use Rattle.scope.proofs.Whole.{sectioned-inside, functions-space, kvars-ready, constraint-space, names-read, names-judged}
 use borrow.Author.Needs.{needs}
-use Rattle.scope.proofs.check_names.Statement.{statement}
-use Rattle.scope.proofs.check_names.Tie as tie
+use Rattle.scope.proofs.judge_names.Statement.{statement}
+use Rattle.scope.proofs.judge_names.Tie as tie
 
 declare-requires : tie.Need-declare-requires
 declare-requires c κs = ((sectioned-inside _ _ (c .before .before .before .pre .0 .0), c .before .before .before .pre .0 .1), c .before .before .before .pre .1)
@@ -37,8 +37,8 @@ same-length-2 c = search needs
 returns-2 : tie.Need-returns-2
 returns-2 c = names-judged _ _ (c .before .before .before .before .before .before .before .before .before .before .before .before .before .before .before .before .before .before .before .before .before .before .pre .0 .0) _ _ (c .before .before .before .before .before .before .before .before .before .before .before .before .before .before .before .before .before .before .before .before .before .before .pre .1) (c .before .before .before .before .before .before .before .before .before .before .before .before .before .before .before .before .before .before .declare .ensures) _ _ (c .before .before .before .before .before .before .before .before .before .before .before .before .before .before .scope-functions .ensures) _ (c .before .before .before .before .before .before .before .before .before .before .declare-kvars .ensures) _ _ (c .before .before .before .before .before .before .judge-constraint .ensures) _ _ _ (c .before .before .walked .given .1) (c .lower .ensures)
 
-pub check-names-spec : {M : Type 1} → statement M
-check-names-spec =
+pub judge-names-spec : {M : Type 1} → statement M
+judge-names-spec =
     tie.close
     (tie.spec
     declare-requires
