@@ -74,6 +74,7 @@ pub record Holding : Type 0 where
   pub symbols : List Symbol
   pub arity : List ℕ → Option ℕ
 
+-- what a table of names over a file holds
 abbrev pub holding : List ℕ → List ℕ → Holding
 holding s t = record { symbols = entries s t; arity = arityIn s t }
 

@@ -66,9 +66,9 @@ module _ (s table : List ℕ) (x : Span) (w : List ℕ) (e : w ≡ bytesOf s x) 
 
 -- A CONSTRAINT BY ITS NODE
 
-pub judge-none : (s t : List ℕ) (l at : ℕ) → l ≡ 0 → Space s t at → (walked-is.Refused 3 ≡ walked (constraintIn s t) (decConstraint l s at)) × Restored s t t
+pub constraint-none : (s t : List ℕ) (l at : ℕ) → l ≡ 0 → Space s t at → (walked-is.Refused 3 ≡ walked (constraintIn s t) (decConstraint l s at)) × Restored s t t
 unfolding decConstraint
-judge-none s t l at e c = (rw e, restored-all s t (c .chained))
+constraint-none s t l at e c = (rw e, restored-all s t (c .chained))
 
 module _ (s t : List ℕ) (l at : ℕ) (node : ConstraintNode) (z : l ≡ 0 → ⊥) (h : ConstraintAt s at node) where
   pub pred-space : (p : ℕ) → node ≡ constraint-node.Pred p → Space s t at → Space s t p
@@ -85,29 +85,29 @@ module _ (s t : List ℕ) (l at : ℕ) (node : ConstraintNode) (z : l ≡ 0 → 
       → w ≡ walked (constraintIn s t) (bind x (λ a q. got (make a) q))
   made one make x w g u = u ∙ sym (after-sound (walked one x)) ∙ lasts one (constraintIn s t) x make Sound (λ a. g a ∙ sym (sound-lower (one a)))
 
-  pub judge-pred : (p : ℕ) (w : Walked) (u : List ℕ) → node ≡ constraint-node.Pred p → (w ≡ walked (predIn s t) (decPred (l - 1) s p)) × Restored s t u
+  pub constraint-pred : (p : ℕ) (w : Walked) (u : List ℕ) → node ≡ constraint-node.Pred p → (w ≡ walked (predIn s t) (decPred (l - 1) s p)) × Restored s t u
       → (w ≡ walked (constraintIn s t) (decConstraint l s at)) × Restored s t u
   unfolding constraintOf constraintNames
-  judge-pred p w u e k = (rw (constraint-at l s at node (constraint-node.Pred p) z h e) (made (predIn s t) Constraint.pred (decPred (l - 1) s p) w (λ a. refl) (k .0)), k .1)
+  constraint-pred p w u e k = (rw (constraint-at l s at node (constraint-node.Pred p) z h e) (made (predIn s t) Constraint.pred (decPred (l - 1) s p) w (λ a. refl) (k .0)), k .1)
 
-  pub judge-conj : (n p : ℕ) (w : Walked) (u : List ℕ) → node ≡ constraint-node.Conj n p
+  pub constraint-conj : (n p : ℕ) (w : Walked) (u : List ℕ) → node ≡ constraint-node.Conj n p
       → (w ≡ walked (constraintsIn s t) (many Constraints.none Constraints.more (decConstraint (l - 1)) n s p)) × Restored s t u
       → (w ≡ walked (constraintIn s t) (decConstraint l s at)) × Restored s t u
   unfolding constraintOf constraintNames
-  judge-conj n p w u e k = (
+  constraint-conj n p w u e k = (
     rw (constraint-at l s at node (constraint-node.Conj n p) z h e)
         (made (constraintsIn s t) Constraint.conj (many Constraints.none Constraints.more (decConstraint (l - 1)) n s p) w (λ a. refl) (k .0)),
     k .1,
   )
 
-  pub judge-for-all : (p : ℕ) (w : Walked) (u : List ℕ) → node ≡ constraint-node.ForAll p → (w ≡ walked (constraintIn s t) (forAll (l - 1) s p)) × Restored s t u
+  pub constraint-for-all : (p : ℕ) (w : Walked) (u : List ℕ) → node ≡ constraint-node.ForAll p → (w ≡ walked (constraintIn s t) (forAll (l - 1) s p)) × Restored s t u
       → (w ≡ walked (constraintIn s t) (decConstraint l s at)) × Restored s t u
   unfolding constraintOf
-  judge-for-all p w u e k = (rw (constraint-at l s at node (constraint-node.ForAll p) z h e) (k .0), k .1)
+  constraint-for-all p w u e k = (rw (constraint-at l s at node (constraint-node.ForAll p) z h e) (k .0), k .1)
 
-  pub judge-refused : node ≡ constraint-node.Refused → Space s t at → (walked-is.Refused 2 ≡ walked (constraintIn s t) (decConstraint l s at)) × Restored s t t
+  pub constraint-refused : node ≡ constraint-node.Refused → Space s t at → (walked-is.Refused 2 ≡ walked (constraintIn s t) (decConstraint l s at)) × Restored s t t
   unfolding constraintOf
-  judge-refused e c = (rw (constraint-at l s at node constraint-node.Refused z h e), restored-all s t (c .chained))
+  constraint-refused e c = (rw (constraint-at l s at node constraint-node.Refused z h e), restored-all s t (c .chained))
 
 -- WHAT A FORALL'S NAME IS KNOWN IN
 

@@ -88,5 +88,6 @@ functionForm = name ▹ λ x. number 2 ▹ λ params. signatureForm
 abbrev pub bodyIn : List ℕ → List ℕ → FunBody → Fault
 bodyIn s table b = exprScope (ctorsIn s table) (varsIn s table ++ b .args) (b .expr)
 
+-- of a body, if there is one
 abbrev pub perhapsIn : List ℕ → List ℕ → Option FunBody → Fault
 perhapsIn s table = bodyScope (ctorsIn s table) (varsIn s table)

@@ -273,7 +273,7 @@ pub fn scope_preds(s: &[u8], at: usize, n: u64, levels: usize, table: &mut [u16]
 }
 
 // The constraint at a position: where it ends, and the fault of its names.
-pub fn judge_constraint(s: &[u8], at: usize, levels: usize, table: &mut [u16]) -> Walked
+pub fn scope_constraint(s: &[u8], at: usize, levels: usize, table: &mut [u16]) -> Walked
     requires { ⌜ Space (now s) (now table) at ⌝ }
     ensures { λ r. ⌜ (r ≡ walked (constraintIn (now (s .entry)) (now (table .entry))) (decConstraint levels (now (s .entry)) at)) × Restored (now (s .entry)) (now (table .entry)) (now (table .exit)) ⌝ }
 {
@@ -284,14 +284,14 @@ pub fn judge_constraint(s: &[u8], at: usize, levels: usize, table: &mut [u16]) -
     let node = task::read_constraint_node(s, at);
     match node {
         ConstraintNode::Pred(p) => scope_pred(s, p, below, table),
-        ConstraintNode::Conj(n, p) => judge_members(s, p, n, below, table),
-        ConstraintNode::ForAll(p) => judge_for_all(s, p, below, table),
+        ConstraintNode::Conj(n, p) => scope_members(s, p, n, below, table),
+        ConstraintNode::ForAll(p) => scope_for_all(s, p, below, table),
         ConstraintNode::Refused => Walked::Refused(2),
     }
 }
 
 // n constraints in a row.
-fn judge_members(s: &[u8], at: usize, n: u64, levels: usize, table: &mut [u16]) -> Walked
+fn scope_members(s: &[u8], at: usize, n: u64, levels: usize, table: &mut [u16]) -> Walked
     requires { ⌜ Space (now s) (now table) at ⌝ }
     ensures { λ r. ⌜ (r ≡ walked (constraintsIn (now (s .entry)) (now (table .entry))) (many Constraints.none Constraints.more (decConstraint levels) n (now (s .entry)) at)) × Restored (now (s .entry)) (now (table .entry)) (now (table .exit)) ⌝ }
 {
@@ -299,7 +299,7 @@ fn judge_members(s: &[u8], at: usize, n: u64, levels: usize, table: &mut [u16]) 
     let mut left = n;
     let mut fault = Fault::Sound;
     while 0 < left {
-        let one = judge_constraint(s, p, levels, table);
+        let one = scope_constraint(s, p, levels, table);
         let Walked::Next(q, f) = one else {
             return one;
         };
@@ -311,7 +311,7 @@ fn judge_members(s: &[u8], at: usize, n: u64, levels: usize, table: &mut [u16]) 
 }
 
 // A ForAll behind its code: its name is known in its predicates and its body.
-fn judge_for_all(s: &[u8], at: usize, levels: usize, table: &mut [u16]) -> Walked
+fn scope_for_all(s: &[u8], at: usize, levels: usize, table: &mut [u16]) -> Walked
     requires { ⌜ Space (now s) (now table) at × (3 * length (entries (now s) (now table)) < at) ⌝ }
     ensures { λ r. ⌜ (r ≡ walked (constraintIn (now (s .entry)) (now (table .entry))) (forAll levels (now (s .entry)) at)) × Restored (now (s .entry)) (now (table .entry)) (now (table .exit)) ⌝ }
 {
@@ -329,13 +329,13 @@ fn judge_for_all(s: &[u8], at: usize, levels: usize, table: &mut [u16]) -> Walke
     };
     let clash = clash_fault(s, x, table);
     names::push(s, table, at, Kind::Bound);
-    let under = judge_under(s, r, n, levels, table);
+    let under = scope_under(s, r, n, levels, table);
     names::pop(s, table);
     task_check::after(clash, under)
 }
 
 // A ForAll behind the number of its predicates: these, and the body.
-fn judge_under(s: &[u8], at: usize, n: u64, levels: usize, table: &mut [u16]) -> Walked
+fn scope_under(s: &[u8], at: usize, n: u64, levels: usize, table: &mut [u16]) -> Walked
     requires { ⌜ Space (now s) (now table) at ⌝ }
     ensures { λ r. ⌜ (r ≡ walked (underIn (now (s .entry)) (now (table .entry))) (underForm levels n (now (s .entry)) at)) × Restored (now (s .entry)) (now (table .entry)) (now (table .exit)) ⌝ }
 {
@@ -343,7 +343,7 @@ fn judge_under(s: &[u8], at: usize, n: u64, levels: usize, table: &mut [u16]) ->
     let Walked::Next(p, f) = preds else {
         return preds;
     };
-    task_check::after(f, judge_constraint(s, p, levels, table))
+    task_check::after(f, scope_constraint(s, p, levels, table))
 }
 
 // A function's body, if it has as many argument names as there are inputs: its arguments are known in it.
@@ -439,7 +439,7 @@ pub fn judge_names(file: &[u8], b: Bounds, table: &mut [u16]) -> Fault
     declared::declare(file, b, table);
     let bodies = scope_functions(file, b.functions, b.kvars, table);
     declared::declare_kvars(file, b, table);
-    let walked = judge_constraint(file, b.constraint, 256, table);
+    let walked = scope_constraint(file, b.constraint, 256, table);
     let Walked::Next(_, fault) = walked else {
         // the constraint was read before
         return bodies;

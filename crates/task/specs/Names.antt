@@ -19,6 +19,7 @@ unfoldable mutual
   forAllNames (Constraint.conj cs) = forAllsIn cs
   forAllNames (Constraint.forAll x b ps c) = x ∷ forAllNames c
 
+  -- of constraints in a row
   pub forAllsIn : Constraints → List (List ℕ)
   forAllsIn Constraints.none = []
   forAllsIn (Constraints.more c cs) = forAllNames c ++ forAllsIn cs
@@ -66,6 +67,7 @@ unfoldable mutual
   freeIn x (Expr.quantifier q bs e) = not (isOne x (map (λ b. b .name) bs)) && freeIn x e
   freeIn x Expr.wkVar = false
 
+  -- in one of several expressions
   pub freeAmong : List ℕ → Exprs → Bool
   freeAmong x Exprs.none = false
   freeAmong x (Exprs.more e es) = freeIn x e || freeAmong x es
@@ -91,6 +93,7 @@ unfoldable mutual
   testedIn x (Expr.quantifier q bs e) = testedIn x e
   testedIn x Expr.wkVar = false
 
+  -- one of several expressions does
   pub testedAmong : List ℕ → Exprs → Bool
   testedAmong x Exprs.none = false
   testedAmong x (Exprs.more e es) = testedIn x e || testedAmong x es
@@ -131,6 +134,7 @@ unfoldable mutual
   EachPred P known (Constraint.conj cs) = EachPreds P known cs
   EachPred P known (Constraint.forAll x b ps c) = Each (P (known ++ (x ∷ []))) ps × EachPred P (known ++ (x ∷ [])) c
 
+  -- of each predicate of constraints in a row
   pub EachPreds : (List (List ℕ) → Pred → Type 0) → List (List ℕ) → Constraints → Type 0
   EachPreds P known Constraints.none = Unit
   EachPreds P known (Constraints.more c cs) = EachPred P known c × EachPreds P known cs
@@ -171,7 +175,7 @@ pub record NamesHold (t : Task) : Type 0 where
   pub known : Known t
   pub counted : Counted t
 
--- (proofs/Naming.antt: names-hold)
+-- where the fold finds no fault it does (proofs/Naming.antt: names-hold)
 abbrev pub SoundNames : Type 0
 SoundNames = (t : Task) → namesFault t ≡ Sound → NamesHold t
 

@@ -99,6 +99,7 @@ unfoldable mutual
   exprScope ctors vars (Expr.quantifier q bs e) = exprScope ctors (vars ++ map (λ b. b .name) bs) e
   exprScope ctors vars Expr.wkVar = Sound
 
+  -- expressions in a row
   pub exprsScope : List (List ℕ) → List (List ℕ) → Exprs → Fault
   exprsScope ctors vars Exprs.none = Sound
   exprsScope ctors vars (Exprs.more e es) = lower (exprScope ctors vars e) (exprsScope ctors vars es)
@@ -126,6 +127,7 @@ pub record Globals : Type 0 where
   -- the number of a KVar's sorts, if it is declared
   pub arity : List ℕ → Option ℕ
 
+-- those of a task
 unfoldable pub globalsOf : Task → Globals
 globalsOf t = record { taken = λ x. isOne x (takenNames t); ctors = declaredBy true (t .datatypes); arity = arityOf (t .kvars) }
 
@@ -152,11 +154,12 @@ unfoldable mutual
   constraintNames g vars (Constraint.forAll x b ps c) =
       lower (unless (not (g .taken x)) Clash) (lower (each (predScope g (vars ++ (x ∷ []))) ps) (constraintNames g (vars ++ (x ∷ [])) c))
 
+  -- constraints in a row
   pub constraintsNames : Globals → List (List ℕ) → Constraints → Fault
   constraintsNames g vars Constraints.none = Sound
   constraintsNames g vars (Constraints.more c cs) = lower (constraintNames g vars c) (constraintsNames g vars cs)
 
--- a task
+-- a task: its functions, and its constraint
 unfoldable pub namesFault : Task → Fault
 namesFault t =
     lower (functionsScope (declaredBy true (t .datatypes)) (everywhere t) (t .functions))

@@ -13,8 +13,8 @@ scope-functions-requires c κs = functions-space _ _ (c .before .before .before 
 declare-kvars-requires : tie.Need-declare-kvars-requires
 declare-kvars-requires c κs = kvars-ready _ _ (c .before .before .before .before .before .before .before .before .before .before .before .pre .0 .0) _ _ (c .before .before .before .before .before .before .before .before .before .before .before .pre .1) (c .before .before .before .before .before .before .before .declare .ensures) _ _ (c .before .before .before .scope-functions .ensures)
 
-judge-constraint-requires : tie.Need-judge-constraint-requires
-judge-constraint-requires c κs = constraint-space _ _ (c .before .before .before .before .before .before .before .before .before .before .before .before .before .before .before .pre .0 .0) _ _ (c .before .before .before .before .before .before .before .before .before .before .before .before .before .before .before .pre .1) (c .before .before .before .before .before .before .before .before .before .before .before .declare .ensures) _ _ (c .before .before .before .before .before .before .before .scope-functions .ensures) _ (c .before .before .before .declare-kvars .ensures)
+scope-constraint-requires : tie.Need-scope-constraint-requires
+scope-constraint-requires c κs = constraint-space _ _ (c .before .before .before .before .before .before .before .before .before .before .before .before .before .before .before .pre .0 .0) _ _ (c .before .before .before .before .before .before .before .before .before .before .before .before .before .before .before .pre .1) (c .before .before .before .before .before .before .before .before .before .before .before .declare .ensures) _ _ (c .before .before .before .before .before .before .before .scope-functions .ensures) _ (c .before .before .before .declare-kvars .ensures)
 
 enum-known-walked : tie.Need-enum-known-walked
 enum-known-walked c = search needs
@@ -26,7 +26,7 @@ same-length : tie.Need-same-length
 same-length c = search needs
 
 returns : tie.Need-returns
-returns c = names-read _ _ (c .before .before .before .before .before .before .before .before .before .before .before .before .before .before .before .before .before .before .before .before .pre .0 .0) _ _ (c .before .before .before .before .before .before .before .before .before .before .before .before .before .before .before .before .before .before .before .before .pre .1) (c .before .before .before .before .before .before .before .before .before .before .before .before .before .before .before .before .declare .ensures) _ _ (c .before .before .before .before .before .before .before .before .before .before .before .before .scope-functions .ensures) _ (c .before .before .before .before .before .before .before .before .declare-kvars .ensures) _ _ (c .before .before .before .before .judge-constraint .ensures) _ (c .enum-told .given .1)
+returns c = names-read _ _ (c .before .before .before .before .before .before .before .before .before .before .before .before .before .before .before .before .before .before .before .before .pre .0 .0) _ _ (c .before .before .before .before .before .before .before .before .before .before .before .before .before .before .before .before .before .before .before .before .pre .1) (c .before .before .before .before .before .before .before .before .before .before .before .before .before .before .before .before .declare .ensures) _ _ (c .before .before .before .before .before .before .before .before .before .before .before .before .scope-functions .ensures) _ (c .before .before .before .before .before .before .before .before .declare-kvars .ensures) _ _ (c .before .before .before .before .scope-constraint .ensures) _ (c .enum-told .given .1)
 
 lower-requires : tie.Need-lower-requires
 lower-requires c κs = search needs
@@ -35,7 +35,7 @@ same-length-2 : tie.Need-same-length-2
 same-length-2 c = search needs
 
 returns-2 : tie.Need-returns-2
-returns-2 c = names-judged _ _ (c .before .before .before .before .before .before .before .before .before .before .before .before .before .before .before .before .before .before .before .before .before .before .pre .0 .0) _ _ (c .before .before .before .before .before .before .before .before .before .before .before .before .before .before .before .before .before .before .before .before .before .before .pre .1) (c .before .before .before .before .before .before .before .before .before .before .before .before .before .before .before .before .before .before .declare .ensures) _ _ (c .before .before .before .before .before .before .before .before .before .before .before .before .before .before .scope-functions .ensures) _ (c .before .before .before .before .before .before .before .before .before .before .declare-kvars .ensures) _ _ (c .before .before .before .before .before .before .judge-constraint .ensures) _ _ _ (c .before .before .walked .given .1) (c .lower .ensures)
+returns-2 c = names-judged _ _ (c .before .before .before .before .before .before .before .before .before .before .before .before .before .before .before .before .before .before .before .before .before .before .pre .0 .0) _ _ (c .before .before .before .before .before .before .before .before .before .before .before .before .before .before .before .before .before .before .before .before .before .before .pre .1) (c .before .before .before .before .before .before .before .before .before .before .before .before .before .before .before .before .before .before .declare .ensures) _ _ (c .before .before .before .before .before .before .before .before .before .before .before .before .before .before .scope-functions .ensures) _ (c .before .before .before .before .before .before .before .before .before .before .declare-kvars .ensures) _ _ (c .before .before .before .before .before .before .scope-constraint .ensures) _ _ _ (c .before .before .walked .given .1) (c .lower .ensures)
 
 pub judge-names-spec : {M : Type 1} → statement M
 judge-names-spec =
@@ -44,7 +44,7 @@ judge-names-spec =
     declare-requires
     scope-functions-requires
     declare-kvars-requires
-    judge-constraint-requires
+    scope-constraint-requires
     enum-known-walked
     enum-told
     same-length
