@@ -9,6 +9,7 @@
 mod cases;
 
 use cases::{Case, CASES, WHOLE};
+use jiggerreef::Edition;
 use oracle::text::rendered;
 use std::hint::black_box;
 use std::time::Instant;
@@ -31,10 +32,10 @@ struct Subject { file: Vec<u8>, script: String, buf: Vec<u8>, parts: usize, samp
 impl Subject {
     /// The archive has to write what the rendering writes.
     fn new(file: Vec<u8>) -> Self {
-        let rendering = rendered(&file).expect("an accepted file");
+        let rendering = rendered(&file, oracle::text::Edition::Z3).expect("an accepted file");
         let (script, parts) = (rendering.script, rendering.ends.len());
         let mut buf = vec![b' '; script.len()];
-        assert!(jiggerreef::script(&file, &mut buf) == Ok(script.len()) && buf == script.as_bytes());
+        assert!(jiggerreef::script(&file, Edition::Z3, &mut buf) == Ok(script.len()) && buf == script.as_bytes());
         let middle = |i: usize| (2 * i + 1) * parts / (2 * SAMPLED);
         let sample = if parts > MANY_PARTS { (0..SAMPLED).map(middle).collect() } else { (0..parts).collect() };
         Subject { file, script, buf, parts, sample }
@@ -52,10 +53,10 @@ impl Measured {
     /// Its time in seconds.
     fn time(self, Subject { file, script, buf, parts, sample }: &mut Subject) -> f64 {
         match self {
-            Survey => seconds(|| jiggerreef::survey(file)),
-            Script => seconds(|| jiggerreef::script(file, buf)),
-            Parts => seconds(|| sample.iter().all(|i| jiggerreef::part(file, *i, buf).is_ok())) * *parts as f64 / sample.len() as f64,
-            Rendering => seconds(|| rendered(black_box(file))),
+            Survey => seconds(|| jiggerreef::survey(file, Edition::Z3)),
+            Script => seconds(|| jiggerreef::script(file, Edition::Z3, buf)),
+            Parts => seconds(|| sample.iter().all(|i| jiggerreef::part(file, Edition::Z3, *i, buf).is_ok())) * *parts as f64 / sample.len() as f64,
+            Rendering => seconds(|| rendered(black_box(file), oracle::text::Edition::Z3)),
             Copied => seconds(|| black_box(&mut *buf).copy_from_slice(black_box(script.as_bytes()))),
         }
     }

@@ -38,7 +38,7 @@ static int unchanged(const uint8_t *buf, size_t from, size_t to) {
 
 static void surveyed(const uint8_t *file, size_t n, size_t script_length) {
     size_t sizes[4] = {0, 0, 0, 0};
-    expect(jiggerreef_survey(file, n, sizes) == 0, "survey accepts the task");
+    expect(jiggerreef_survey(file, n, JIGGERREEF_Z3, sizes) == 0, "survey accepts the task");
     expect(sizes[0] == 7 && sizes[1] == 2 && sizes[2] == script_length && sizes[3] == 83, "survey's four numbers");
 }
 
@@ -48,26 +48,26 @@ static void joined(const uint8_t *file, size_t n, const uint8_t *script, size_t 
     size_t at = 0, length = 0;
     for (size_t i = 0; i < 7; i++) {
         memset(buf, FILLED, MOST);
-        expect(jiggerreef_part(file, n, i, buf, MOST, &length) == 0, "a part is written");
+        expect(jiggerreef_part(file, n, buf, MOST, JIGGERREEF_Z3, i, &length) == 0, "a part is written");
         expect(at + length <= m && memcmp(buf, script + at, length) == 0, "a part is its piece of the script");
         expect(unchanged(buf, length, MOST), "bytes behind a part are unchanged");
         at += length;
         memset(buf, FILLED, MOST);
-        expect(jiggerreef_part(file, n, i, buf, length - 1, &length) == 9, "a buffer one byte short is refused with 9");
+        expect(jiggerreef_part(file, n, buf, length - 1, JIGGERREEF_Z3, i, &length) == 9, "a buffer one byte short is refused with 9");
         expect(unchanged(buf, 0, MOST), "a refused part changes no byte");
     }
     expect(at == m, "the parts joined are the script");
-    expect(jiggerreef_part(file, n, 7, buf, MOST, &length) == 8, "part 7 of 7 is refused with 8");
-    expect(jiggerreef_part(file, n, SIZE_MAX, buf, MOST, &length) == 8, "the largest index is refused with 8");
+    expect(jiggerreef_part(file, n, buf, MOST, JIGGERREEF_Z3, 7, &length) == 8, "part 7 of 7 is refused with 8");
+    expect(jiggerreef_part(file, n, buf, MOST, JIGGERREEF_Z3, SIZE_MAX, &length) == 8, "the largest index is refused with 8");
 }
 
 static void written(const uint8_t *file, size_t n, const uint8_t *script, size_t m) {
     static uint8_t buf[MOST];
     size_t length = 12345;
     memset(buf, FILLED, MOST);
-    expect(jiggerreef_script(file, n, buf, m - 1, &length) == 9, "a buffer one byte short is refused with 9");
+    expect(jiggerreef_script(file, n, buf, m - 1, JIGGERREEF_Z3, &length) == 9, "a buffer one byte short is refused with 9");
     expect(unchanged(buf, 0, MOST) && length == 12345, "a refusal changes no byte and stores no length");
-    expect(jiggerreef_script(file, n, buf, m, &length) == 0 && length == m, "a buffer of just the length is enough");
+    expect(jiggerreef_script(file, n, buf, m, JIGGERREEF_Z3, &length) == 0 && length == m, "a buffer of just the length is enough");
     expect(memcmp(buf, script, m) == 0 && unchanged(buf, m, MOST), "the script, and bytes behind it unchanged");
 }
 
@@ -75,10 +75,10 @@ static void written(const uint8_t *file, size_t n, const uint8_t *script, size_t
 static void refused(void) {
     uint8_t file[1] = {0}, buf[1] = {FILLED};
     size_t sizes[4] = {1, 2, 3, 4}, length = 5;
-    expect(jiggerreef_survey(file, 0, sizes) == 1 && jiggerreef_survey(file, 1, sizes) == 1, "survey refuses with 1");
+    expect(jiggerreef_survey(file, 0, JIGGERREEF_Z3, sizes) == 1 && jiggerreef_survey(file, 1, JIGGERREEF_CVC5, sizes) == 1, "survey refuses with 1");
     expect(sizes[0] == 1 && sizes[1] == 2 && sizes[2] == 3 && sizes[3] == 4, "a refused survey stores nothing");
-    expect(jiggerreef_part(file, 1, 0, buf, 1, &length) == 1, "part refuses with 1");
-    expect(jiggerreef_script(file, 1, buf, 0, &length) == 1, "script refuses with 1, before a short buffer");
+    expect(jiggerreef_part(file, 1, buf, 1, JIGGERREEF_CVC5, 0, &length) == 1, "part refuses with 1");
+    expect(jiggerreef_script(file, 1, buf, 0, JIGGERREEF_CVC5, &length) == 1, "script refuses with 1, before a short buffer");
     expect(buf[0] == FILLED && length == 5, "a refusal changes nothing");
 }
 
@@ -89,9 +89,11 @@ static void refused_behind(uint8_t number, size_t kvars, const uint8_t *sections
     memcpy(file, sections, n);
     file[n + 20] = (uint8_t)kvars;
     memcpy(file + n + 24, "HORN", 4);
-    expect(jiggerreef_survey(file, n + 28, sizes) == number, "survey refuses a fault with its number");
-    expect(jiggerreef_part(file, n + 28, 0, buf, 1, &length) == number, "so does part");
-    expect(jiggerreef_script(file, n + 28, buf, 1, &length) == number && buf[0] == FILLED, "so does script, and changes nothing");
+    for (uint8_t edition = JIGGERREEF_Z3; edition <= JIGGERREEF_CVC5; edition++) {
+        expect(jiggerreef_survey(file, n + 28, edition, sizes) == number, "survey refuses a fault with its number");
+        expect(jiggerreef_part(file, n + 28, buf, 1, edition, 0, &length) == number, "so does part");
+        expect(jiggerreef_script(file, n + 28, buf, 1, edition, &length) == number && buf[0] == FILLED, "so does script, and changes nothing");
+    }
 }
 
 static void refused_with(uint8_t number, const uint8_t *constraint, size_t n) { refused_behind(number, 0, constraint, n); }
@@ -114,11 +116,11 @@ static void declared(void) {
     memcpy(file, sections, sizeof sections);
     file[N - 16] = file[N - 12] = file[N - 8] = 5;
     memcpy(file + N - 4, "HORN", 4);
-    expect(jiggerreef_survey(file, N, sizes) == 15, "survey refuses a ForAll named like a constant with 15");
-    expect(jiggerreef_part(file, N, 0, buf, 1, &length) == 15, "so does part");
-    expect(jiggerreef_script(file, N, buf, 1, &length) == 15 && buf[0] == FILLED, "so does script, and changes nothing");
+    expect(jiggerreef_survey(file, N, JIGGERREEF_Z3, sizes) == 15, "survey refuses a ForAll named like a constant with 15");
+    expect(jiggerreef_part(file, N, buf, 1, JIGGERREEF_Z3, 0, &length) == 15, "so does part");
+    expect(jiggerreef_script(file, N, buf, 1, JIGGERREEF_Z3, &length) == 15 && buf[0] == FILLED, "so does script, and changes nothing");
     file[26] = 'n';
-    expect(jiggerreef_survey(file, N, sizes) == 0 && sizes[1] == 1, "under another name it is accepted");
+    expect(jiggerreef_survey(file, N, JIGGERREEF_Z3, sizes) == 0 && sizes[1] == 1, "under another name it is accepted");
 }
 
 /* the Var a, with nothing declared; IsCtor of a, likewise; the KVar k as a Var; the predicate k, undeclared; the KVar k over one Int, without an
@@ -137,7 +139,7 @@ static void known(void) {
     memcpy(file, as_many, sizeof as_many);
     file[sizeof as_many + 20] = 5;
     memcpy(file + sizeof as_many + 24, "HORN", 4);
-    expect(jiggerreef_survey(file, sizeof file, sizes) == 0 && sizes[1] == 1, "with an argument it is accepted");
+    expect(jiggerreef_survey(file, sizeof file, JIGGERREEF_Z3, sizes) == 0 && sizes[1] == 1, "with an argument it is accepted");
 }
 
 /* a head that is a string of one quotation mark */
@@ -147,8 +149,36 @@ static void quoted(void) {
     size_t length = 0;
     memcpy(file, constraint, 6);
     memcpy(file + 30, "HORN", 4);
-    expect(jiggerreef_part(file, 34, 2, buf, 64, &length) == 0, "a string with a quotation mark is accepted");
+    expect(jiggerreef_part(file, 34, buf, 64, JIGGERREEF_Z3, 2, &length) == 0, "a string with a quotation mark is accepted");
     expect(length == sizeof assertion - 1 && memcmp(buf, assertion, length) == 0, "and the mark is written twice");
+}
+
+/* a head that is SetMem of true in SetSng of true, in the edition of a number */
+static void named(uint8_t edition, const char *assertion) {
+    static const uint8_t constraint[] = {0, 1, 17, 0, 18, 44, 2, 0, 1, 1, 17, 0, 18, 39, 1, 0, 1, 1};
+    enum { N = sizeof constraint + 28 };
+    uint8_t file[N] = {0}, buf[256];
+    size_t n = strlen(assertion), length = 0, sizes[4] = {0, 0, 0, 0};
+    memcpy(file, constraint, sizeof constraint);
+    memcpy(file + N - 4, "HORN", 4);
+    memset(buf, FILLED, sizeof buf);
+    expect(jiggerreef_survey(file, N, edition, sizes) == 0 && sizes[0] == 4 && sizes[1] == 1 && sizes[2] == n + 32 && sizes[3] == n,
+        "survey measures with the names of the edition");
+    expect(jiggerreef_part(file, N, buf, n - 1, edition, 2, &length) == 9 && unchanged(buf, 0, sizeof buf), "so does part");
+    expect(jiggerreef_part(file, N, buf, n, edition, 2, &length) == 0 && length == n, "part takes the room of the edition's text");
+    expect(memcmp(buf, assertion, n) == 0 && unchanged(buf, n, sizeof buf), "and writes that text");
+    expect(jiggerreef_script(file, N, buf, n + 32, edition, &length) == 0 && length == n + 32 && unchanged(buf, n + 32, sizeof buf), "so does script");
+    expect(memcmp(buf + 19, assertion, n) == 0, "with that text in it");
+}
+
+/* 0 is Z3, any other number cvc5 */
+static void editions(void) {
+    static const char cvc5[] = "(assert (=> (not (set.member true (set.singleton true))) false))\n";
+    named(JIGGERREEF_Z3, "(assert (=> (not (member true (singleton true))) false))\n");
+    named(JIGGERREEF_CVC5, cvc5);
+    named(2, cvc5);
+    named(128, cvc5);
+    named(UINT8_MAX, cvc5);
 }
 
 int main(int argc, char **argv) {
@@ -165,6 +195,7 @@ int main(int argc, char **argv) {
     declared();
     known();
     quoted();
+    editions();
     printf("%d passed, %d failed\n", passed, failed);
     return failed != 0;
 }

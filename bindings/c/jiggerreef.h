@@ -5,7 +5,13 @@
  *     where the length is 0. `sizes` points to four values, `length` to one, aligned.
  *   - `buf` shares no byte with `file`, and `sizes` and `length` share none with either.
  *   - The thread has 600 KB of stack left, which the deepest tasks need (256 levels of ForAlls or Conjs); there is no heap.
- * The archive is for x86-64 Linux. The bytes, the index and the lengths are free: there is nothing to test before a call. An uninitialised buffer is fine.
+ * The archive is for x86-64 Linux. The bytes, the edition, the index and the lengths are free: there is nothing to test before a call. An
+ * uninitialised buffer is fine.
+ *
+ * `edition` tells whose names the set functions have in the script: 0 (JIGGERREEF_Z3) those of Z3, any other number (JIGGERREEF_CVC5) those of cvc5.
+ *   Z3      emptyset   singleton      union      intersection  setminus   member      subset
+ *   cvc5    set.empty  set.singleton  set.union  set.inter     set.minus  set.member  set.subset
+ * All else is the same text, and no refusal depends on the edition.
  *
  * A call answers 0 and stores its values, or it answers the number of its refusal, stores nothing and changes no byte of `buf`.
  *   1       no task file: wrong length, mark or offsets
@@ -31,18 +37,21 @@
 #include <stddef.h>
 #include <stdint.h>
 
+#define JIGGERREEF_Z3 0
+#define JIGGERREEF_CVC5 1
+
 #ifdef __cplusplus
 extern "C" {
 #endif
 
 /* Stores the numbers of parts and of assertions, the length of the script and that of its longest part; or answers one of survey's refusals. */
-uint8_t jiggerreef_survey(const uint8_t *file, size_t file_len, size_t sizes[4]);
+uint8_t jiggerreef_survey(const uint8_t *file, size_t file_len, uint8_t edition, size_t sizes[4]);
 
 /* Writes part `index` to the buffer's start and stores its length; or answers survey's refusal, then 8, then 9. Bytes behind the part are unchanged. */
-uint8_t jiggerreef_part(const uint8_t *file, size_t file_len, size_t index, uint8_t *buf, size_t buf_len, size_t *length);
+uint8_t jiggerreef_part(const uint8_t *file, size_t file_len, uint8_t *buf, size_t buf_len, uint8_t edition, size_t index, size_t *length);
 
 /* Writes the script to the buffer's start and stores its length; or answers survey's refusal, then 9. Bytes behind the script are unchanged. */
-uint8_t jiggerreef_script(const uint8_t *file, size_t file_len, uint8_t *buf, size_t buf_len, size_t *length);
+uint8_t jiggerreef_script(const uint8_t *file, size_t file_len, uint8_t *buf, size_t buf_len, uint8_t edition, size_t *length);
 
 #ifdef __cplusplus
 }

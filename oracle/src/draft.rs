@@ -35,10 +35,10 @@ pub const DECLARED: [char; 5] = ['R', 'I', 'X', 'Y', 'Z'];
 /// The letters of names that stand at declarations or binders, and that a ForAll may have: of a datatype, an argument, a Let, a Quantifier.
 pub const HARMLESS: [char; 4] = ['O', 'G', 'L', 'J'];
 
-/// Names beside those made by chance: words of the script, and neighbours of reserved words.
-const NAMES: [&str; 24] = [
+/// Names beside those made by chance: words of the script, in both editions, and neighbours of reserved words.
+const NAMES: [&str; 28] = [
     "x", "y", "k0", "f", "List", "nil", "cons", "true", "false", "Int", "T0", "and", "not", "=>", "<=", "-", "lets", "Let", "asserts",
-    "check-sat-assumin", "parr", "__", "~!@$%^&*_-+=<>.?/", "HORN",
+    "check-sat-assumin", "parr", "__", "~!@$%^&*_-+=<>.?/", "HORN", "union", "set.union", "emptyset", "set.empty",
 ];
 
 /// An item or a predicate mostly has up to so many pieces.

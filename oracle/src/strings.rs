@@ -1,50 +1,52 @@
-//! The strings that a task has, and those that a reader finds in a script.
+//! The expressions of a task, the strings that it has, and those that a reader finds in a script.
 use crate::task::{Constraint, Expr, Pred, Task};
 use std::slice::from_ref;
 
 /// All strings of a task, in the order of the file; those that are not written too.
 pub fn strings<'a>(task: &Task<'a>) -> Vec<&'a str> {
     let mut found = Vec::new();
-    task.functions.iter().filter_map(|function| function.body.as_ref()).for_each(|body| in_exprs(from_ref(&body.expr), &mut found));
-    in_constraint(&task.constraint, &mut found);
+    let mut visit = |expr: &Expr<'a>| if let Expr::String(text) = expr { found.push(*text) };
+    task.functions.iter().filter_map(|function| function.body.as_ref()).for_each(|body| in_exprs(from_ref(&body.expr), &mut visit));
+    in_constraint(&task.constraint, &mut visit);
     found
 }
 
-fn in_exprs<'a>(exprs: &[Expr<'a>], found: &mut Vec<&'a str>) {
+/// Visits expressions and all that they are made of.
+pub fn in_exprs<'a>(exprs: &[Expr<'a>], visit: &mut impl FnMut(&Expr<'a>)) {
     for expr in exprs {
+        visit(expr);
         match expr {
-            Expr::String(text) => found.push(*text),
-            Expr::Numeral(_) | Expr::Boolean(_) | Expr::Real(_) | Expr::BitVec(..) | Expr::Var(_) | Expr::WKVar | Expr::ThyFunc(..) => (),
+            Expr::Numeral(_) | Expr::Boolean(_) | Expr::Real(_) | Expr::String(_) | Expr::BitVec(..) | Expr::Var(_) | Expr::WKVar | Expr::ThyFunc(..) => (),
             Expr::Neg(operand) | Expr::Not(operand) | Expr::IsCtor(_, operand) | Expr::Quantifier(_, _, operand) => {
-                in_exprs(from_ref(&**operand), found)
+                in_exprs(from_ref(&**operand), visit)
             }
             Expr::BinaryOp(_, operands) | Expr::Atom(_, operands) | Expr::Imp(operands) | Expr::Iff(operands) | Expr::Let(_, operands) => {
-                in_exprs(&operands[..], found)
+                in_exprs(&operands[..], visit)
             }
-            Expr::And(members) | Expr::Or(members) => in_exprs(members, found),
-            Expr::IfThenElse(operands) => in_exprs(&operands[..], found),
+            Expr::And(members) | Expr::Or(members) => in_exprs(members, visit),
+            Expr::IfThenElse(operands) => in_exprs(&operands[..], visit),
             Expr::App(head, args, _) => {
-                in_exprs(from_ref(&**head), found);
-                in_exprs(args, found);
+                in_exprs(from_ref(&**head), visit);
+                in_exprs(args, visit);
             }
         }
     }
 }
 
-fn in_pred<'a>(pred: &Pred<'a>, found: &mut Vec<&'a str>) {
+pub fn in_pred<'a>(pred: &Pred<'a>, visit: &mut impl FnMut(&Expr<'a>)) {
     match pred {
-        Pred::KVar(_, args) => in_exprs(args, found),
-        Pred::Expr(expr) => in_exprs(from_ref(expr), found),
+        Pred::KVar(_, args) => in_exprs(args, visit),
+        Pred::Expr(expr) => in_exprs(from_ref(expr), visit),
     }
 }
 
-fn in_constraint<'a>(constraint: &Constraint<'a>, found: &mut Vec<&'a str>) {
+fn in_constraint<'a>(constraint: &Constraint<'a>, visit: &mut impl FnMut(&Expr<'a>)) {
     match constraint {
-        Constraint::Pred(head) => in_pred(head, found),
-        Constraint::Conj(members) => members.iter().for_each(|member| in_constraint(member, found)),
+        Constraint::Pred(head) => in_pred(head, visit),
+        Constraint::Conj(members) => members.iter().for_each(|member| in_constraint(member, visit)),
         Constraint::ForAll(_, preds, body) => {
-            preds.iter().for_each(|pred| in_pred(pred, found));
-            in_constraint(body, found);
+            preds.iter().for_each(|pred| in_pred(pred, visit));
+            in_constraint(body, visit);
         }
     }
 }

@@ -1,9 +1,32 @@
-//! What is written for a task: the source's `smt_fmt.rs` and `smt_horn.rs`, function by function, with `SmtOptions::HORN`.
+//! What is written for a task: the source's `smt_fmt.rs` and `smt_horn.rs`, function by function, with `SmtOptions::HORN`, and with the names
+//! that the set functions have in an edition.
 //!
 //! `rendered` is the whole way from a file to its script or its refusal, with nothing else in it.
 use crate::task::*;
 use std::collections::HashSet;
 use std::fmt::{Display, Write};
+
+/// Whose names the set functions have in a script (W-205).
+#[derive(Debug, Clone, Copy, PartialEq, Eq)]
+pub enum Edition { Z3, Cvc5 }
+
+impl Edition {
+    pub const BOTH: [Edition; 2] = [Edition::Z3, Edition::Cvc5];
+
+    /// What a theory function is called.
+    pub fn name(self, function: usize) -> &'static str {
+        match (self, THEORY[function]) {
+            (Edition::Cvc5, "emptyset") => "set.empty",
+            (Edition::Cvc5, "singleton") => "set.singleton",
+            (Edition::Cvc5, "union") => "set.union",
+            (Edition::Cvc5, "intersection") => "set.inter",
+            (Edition::Cvc5, "setminus") => "set.minus",
+            (Edition::Cvc5, "member") => "set.member",
+            (Edition::Cvc5, "subset") => "set.subset",
+            (_, name) => name,
+        }
+    }
+}
 
 /// A script, where each of its parts ends, and the number of its assertions.
 pub struct Rendering { pub script: String, pub ends: Vec<usize>, pub assertions: usize }
@@ -14,15 +37,18 @@ impl Rendering {
 }
 
 /// The script of a file, or its refusal.
-pub fn rendered(file: &[u8]) -> Answer<Rendering> { accepted(file).map(|task| write_smt_horn(&task)) }
+pub fn rendered(file: &[u8], edition: Edition) -> Answer<Rendering> { accepted(file).map(|task| write_smt_horn(&task, edition)) }
 
-/// An answer in a line: the four numbers of the survey, or the refusal.
+/// The four numbers of the survey in a line.
+pub fn sizes(rendering: &Rendering) -> String {
+    let (parts, bytes, longest) = (rendering.ends.len(), rendering.script.len(), rendering.longest());
+    format!("{parts} parts, {} assertions, {bytes} bytes, longest {longest}", rendering.assertions)
+}
+
+/// An answer in a line: these numbers, or the refusal.
 pub fn line(answer: &Answer<Rendering>) -> String {
     match answer {
-        Ok(rendering) => {
-            let (parts, bytes, longest) = (rendering.ends.len(), rendering.script.len(), rendering.longest());
-            format!("{parts} parts, {} assertions, {bytes} bytes, longest {longest}", rendering.assertions)
-        }
+        Ok(rendering) => sizes(rendering),
         Err(refusal) => format!("refused {refusal}"),
     }
 }
@@ -59,13 +85,13 @@ fn sexp_list<T>(out: &mut String, items: impl IntoIterator<Item = T>, mut write_
     out.push(')');
 }
 
-/// Knows what the datatype section declares: names of constructors and names of sorts.
-struct SmtEncoder<'a> { constructors: HashSet<&'a str>, datatypes: HashSet<&'a str> }
+/// Knows the edition, and what the datatype section declares: names of constructors and names of sorts.
+struct SmtEncoder<'a> { edition: Edition, constructors: HashSet<&'a str>, datatypes: HashSet<&'a str> }
 
 impl<'a> SmtEncoder<'a> {
-    fn new(datatypes: &[Datatype<'a>]) -> Self {
+    fn new(datatypes: &[Datatype<'a>], edition: Edition) -> Self {
         let constructors = datatypes.iter().flat_map(|datatype| datatype.ctors.iter().map(|ctor| ctor.name)).collect();
-        SmtEncoder { constructors, datatypes: datatypes.iter().map(|datatype| datatype.name).collect() }
+        SmtEncoder { edition, constructors, datatypes: datatypes.iter().map(|datatype| datatype.name).collect() }
     }
 
     fn write_datatype_decl(&self, out: &mut String, datatype: &Datatype) {
@@ -222,7 +248,7 @@ impl<'a> SmtEncoder<'a> {
             Expr::IfThenElse(operands) => self.write_operation(out, "ite", &operands[..]),
             Expr::Let(name, operands) => self.write_let(out, name, operands),
             Expr::App(head, args, sort) => self.write_applied(out, args, |out| self.write_application_head(out, head, sort.as_ref())),
-            Expr::ThyFunc(function, width) => write_thy_func(out, *function, *width),
+            Expr::ThyFunc(function, width) => self.write_thy_func(out, *function, *width),
             Expr::IsCtor(name, operand) => {
                 out.push_str("((_ is ");
                 out.push_str(name);
@@ -254,7 +280,7 @@ impl<'a> SmtEncoder<'a> {
     fn write_application_head(&self, out: &mut String, head: &Expr, sort: Option<&Sort>) {
         let (word, sort) = match (head, sort) {
             (Expr::Var(name), Some(sort)) if self.constructors.contains(name) => (*name, sort),
-            (Expr::ThyFunc(function @ (SET_EMPTY | MAP_DEFAULT), _), Some(sort)) => (THEORY[*function], sort),
+            (Expr::ThyFunc(function @ (SET_EMPTY | MAP_DEFAULT), _), Some(sort)) => (self.edition.name(*function), sort),
             _ => return self.write_expr(out, head),
         };
         out.push_str("(as ");
@@ -262,6 +288,14 @@ impl<'a> SmtEncoder<'a> {
         out.push(' ');
         self.write_sort(out, sort);
         out.push(')');
+    }
+
+    fn write_thy_func(&self, out: &mut String, function: usize, width: u8) {
+        match function {
+            ZERO_EXTEND | SIGN_EXTEND => write!(out, "(_ {} {width})", THEORY[function]).expect("a String takes every text"),
+            SET_EMPTY | MAP_DEFAULT => panic!("a function without its sort"),
+            _ => out.push_str(self.edition.name(function)),
+        }
     }
 }
 
@@ -271,14 +305,6 @@ fn write_sort_ctor(out: &mut String, ctor: &SortCtor) {
         SortCtor::Map => "Array",
         SortCtor::Data(name) => name,
     });
-}
-
-fn write_thy_func(out: &mut String, function: usize, width: u8) {
-    match function {
-        ZERO_EXTEND | SIGN_EXTEND => write!(out, "(_ {} {width})", THEORY[function]).expect("a String takes every text"),
-        SET_EMPTY | MAP_DEFAULT => panic!("a function without its sort"),
-        _ => out.push_str(THEORY[function]),
-    }
 }
 
 // ---- Assertions and the whole script
@@ -355,8 +381,8 @@ impl SmtEncoder<'_> {
 }
 
 /// The script: an opening through the comments, the declarations, a blank line, the assertions, and `(check-sat)` behind a blank line.
-pub fn write_smt_horn(task: &Task) -> Rendering {
-    let encoder = SmtEncoder::new(&task.datatypes);
+pub fn write_smt_horn(task: &Task, edition: Edition) -> Rendering {
+    let encoder = SmtEncoder::new(&task.datatypes, edition);
     let (mut out, mut ends) = (String::from("(set-logic HORN)\n\n"), Vec::new());
     for line in &task.comments {
         out.push_str(";; ");

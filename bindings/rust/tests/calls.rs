@@ -1,17 +1,24 @@
 //! The three calls on the scope document's case and on bytes that are no task.
-use jiggerreef::{part, script, survey, Sizes};
+use jiggerreef::{part, script, survey, Edition, Refusal, Sizes};
 
 const TASK: &[u8] = include_bytes!("../../../crates/hornscript/stdin");
 const SCRIPT: &[u8] = include_bytes!("../../../crates/hornscript/stdout");
 const FILLED: u8 = 0xa5;
 
-fn number<T>(answer: Result<T, jiggerreef::Refusal>) -> Option<u8> {
+fn number<T>(answer: Result<T, Refusal>) -> Option<u8> {
     answer.err().map(|refusal| refusal.number())
+}
+
+/// What the three calls answer in both editions: the numbers of refusals.
+fn numbers(file: &[u8], buf: &mut [u8]) -> [Option<u8>; 6] {
+    let [z3, cvc5] = [Edition::Z3, Edition::Cvc5]
+        .map(|edition| [number(survey(file, edition)), number(part(file, edition, 0, buf)), number(script(file, edition, buf))]);
+    [z3[0], z3[1], z3[2], cvc5[0], cvc5[1], cvc5[2]]
 }
 
 #[test]
 fn survey_gives_the_numbers_of_the_script() {
-    assert_eq!(survey(TASK), Ok(Sizes { parts: 7, assertions: 2, bytes: SCRIPT.len(), longest: 83 }));
+    assert_eq!(survey(TASK, Edition::Z3), Ok(Sizes { parts: 7, assertions: 2, bytes: SCRIPT.len(), longest: 83 }));
 }
 
 #[test]
@@ -19,24 +26,24 @@ fn parts_joined_are_the_script() {
     let mut joined: Vec<u8> = Vec::new();
     for index in 0..7 {
         let mut buf = [FILLED; 512];
-        let length = part(TASK, index, &mut buf).unwrap();
+        let length = part(TASK, Edition::Z3, index, &mut buf).unwrap();
         assert!(buf[length..].iter().all(|byte| *byte == FILLED));
         joined.extend(&buf[..length]);
         let mut short = vec![FILLED; length - 1];
-        assert_eq!(number(part(TASK, index, &mut short)), Some(9));
+        assert_eq!(number(part(TASK, Edition::Z3, index, &mut short)), Some(9));
         assert!(short.iter().all(|byte| *byte == FILLED));
     }
     assert_eq!(joined, SCRIPT);
-    assert_eq!([7, usize::MAX].map(|index| number(part(TASK, index, &mut [0; 512]))), [Some(8); 2]);
+    assert_eq!([7, usize::MAX].map(|index| number(part(TASK, Edition::Z3, index, &mut [0; 512]))), [Some(8); 2]);
 }
 
 #[test]
 fn a_script_needs_its_length_and_leaves_the_rest() {
     let mut buf = vec![FILLED; SCRIPT.len() + 100];
-    assert_eq!(number(script(TASK, &mut buf[..SCRIPT.len() - 1])), Some(9));
+    assert_eq!(number(script(TASK, Edition::Z3, &mut buf[..SCRIPT.len() - 1])), Some(9));
     assert!(buf.iter().all(|byte| *byte == FILLED));
-    assert_eq!(script(TASK, &mut buf[..SCRIPT.len()]), Ok(SCRIPT.len()));
-    assert_eq!(script(TASK, &mut buf), Ok(SCRIPT.len()));
+    assert_eq!(script(TASK, Edition::Z3, &mut buf[..SCRIPT.len()]), Ok(SCRIPT.len()));
+    assert_eq!(script(TASK, Edition::Z3, &mut buf), Ok(SCRIPT.len()));
     assert_eq!(&buf[..SCRIPT.len()], SCRIPT);
     assert!(buf[SCRIPT.len()..].iter().all(|byte| *byte == FILLED));
 }
@@ -44,7 +51,7 @@ fn a_script_needs_its_length_and_leaves_the_rest() {
 #[test]
 fn no_task_is_refused_by_every_call_alike() {
     for file in [&b""[..], b"no task", &TASK[..107], &[0; 60_001]] {
-        assert_eq!([number(survey(file)), number(part(file, 0, &mut [])), number(script(file, &mut []))], [Some(1); 3]);
+        assert_eq!(numbers(file, &mut []), [Some(1); 6]);
     }
 }
 
@@ -69,7 +76,7 @@ fn each_form_without_a_text_has_its_number() {
         (12, file_with(2, &[1, b'c', 4, 0], &[0, 1, 6])),
     ] {
         let mut buf = [FILLED; 512];
-        assert_eq!([number(survey(&file)), number(part(&file, 0, &mut buf)), number(script(&file, &mut buf))], [Some(refusal); 3]);
+        assert_eq!(numbers(&file, &mut buf), [Some(refusal); 6]);
         assert!(buf.iter().all(|byte| *byte == FILLED));
     }
 }
@@ -89,13 +96,13 @@ fn a_for_all_named_like_something_declared_is_refused() {
         file_with(4, &[1, b'x', 0, 0], FOR_ALL),
     ] {
         let mut buf = [FILLED; 512];
-        assert_eq!([number(survey(&file)), number(part(&file, 0, &mut buf)), number(script(&file, &mut buf))], [Some(15); 3]);
+        assert_eq!(numbers(&file, &mut buf), [Some(15); 6]);
         assert!(buf.iter().all(|byte| *byte == FILLED));
     }
     let mut renamed = file_with(2, b"\x03lim\0", MERGE);
     renamed[26] = b'n';
-    assert_eq!(number(survey(&renamed)), None);
-    assert_eq!(number(survey(&file_with(1, &[1, b'x', 0, 0, 1, 0, 1, b'c', 0, 0], FOR_ALL))), None);
+    assert_eq!(number(survey(&renamed, Edition::Z3)), None);
+    assert_eq!(number(survey(&file_with(1, &[1, b'x', 0, 0, 1, 0, 1, b'c', 0, 0], FOR_ALL), Edition::Z3)), None);
 }
 
 /// A Var that nothing declares, alone, as an App's head, in the first operand of the Let of that name, and in a predicate of a ForAll without
@@ -114,11 +121,11 @@ fn a_name_that_is_not_known_is_refused() {
         file_with(2, b"\x01a\x01", b"\0\0\x01a\0\0"),
     ] {
         let mut buf = [FILLED; 512];
-        assert_eq!([number(survey(&file)), number(part(&file, 0, &mut buf)), number(script(&file, &mut buf))], [Some(10); 3]);
+        assert_eq!(numbers(&file, &mut buf), [Some(10); 6]);
         assert!(buf.iter().all(|byte| *byte == FILLED));
     }
-    assert_eq!(number(survey(&file_with(2, b"\x01a\0", b"\0\x01\x05\x01a"))), None);
-    assert_eq!(number(survey(&file_with(0, &[], b"\0\x01\x10\x01a\x01\x01\x05\x01a"))), None);
+    assert_eq!(number(survey(&file_with(2, b"\x01a\0", b"\0\x01\x05\x01a"), Edition::Z3)), None);
+    assert_eq!(number(survey(&file_with(0, &[], b"\0\x01\x10\x01a\x01\x01\x05\x01a"), Edition::Z3)), None);
 }
 
 /// KVars over one Int, over none and two, and over one and two with one name, of which the first counts; heads with none to two arguments.
@@ -129,7 +136,7 @@ fn a_kvar_takes_as_many_arguments_as_it_has_sorts() {
         for (args, head) in HEADS.iter().enumerate() {
             let file = file_with(4, kvars, head);
             let (due, mut buf) = ((args != sorts).then_some(11), [FILLED; 512]);
-            assert_eq!([number(survey(&file)), number(part(&file, 0, &mut buf)), number(script(&file, &mut [0; 512]))], [due; 3]);
+            assert_eq!(numbers(&file, &mut buf), [due; 6]);
             assert!(due.is_none() || buf.iter().all(|byte| *byte == FILLED));
         }
     }
@@ -138,20 +145,20 @@ fn a_kvar_takes_as_many_arguments_as_it_has_sorts() {
 #[test]
 fn a_line_break_in_a_comment_is_refused() {
     let mut file = file_with(0, b"\x0c\0\n(check-sat)", NOTHING);
-    assert_eq!(number(script(&file, &mut [0; 512])), Some(4));
+    assert_eq!(number(script(&file, Edition::Z3, &mut [0; 512])), Some(4));
     file[2] = b' ';
-    assert_eq!(survey(&file).map(|sizes| sizes.parts), Ok(3));
+    assert_eq!(survey(&file, Edition::Z3).map(|sizes| sizes.parts), Ok(3));
 }
 
 #[test]
 fn a_quotation_mark_in_a_string_is_written_twice() {
     let mut file = file_with(0, &[], b"\0\x01\x03\x03\0a\"b");
     let mut buf = [FILLED; 512];
-    let length = part(&file, 2, &mut buf).unwrap();
+    let length = part(&file, Edition::Z3, 2, &mut buf).unwrap();
     assert_eq!(&buf[..length], b"(assert (=> (not \"a\"\"b\") false))\n");
-    assert_eq!(survey(&file).map(|sizes| sizes.longest), Ok(length));
+    assert_eq!(survey(&file, Edition::Z3).map(|sizes| sizes.longest), Ok(length));
     file[6] = b'\n';
-    assert_eq!(number(survey(&file)), Some(4));
+    assert_eq!(number(survey(&file, Edition::Z3)), Some(4));
 }
 
 /// 254 ForAlls inside each other, the most that there may be, and 254 Conjs: a thread of 640 KB has the stack that is promised to be enough.
@@ -167,11 +174,32 @@ fn the_deepest_tasks_fit_a_small_thread() {
         constraint.extend([0, 0, 1, b'k', 0, 0]);
         let file = file_with(4, &[1, b'k', 0, 0], &constraint);
         let walked = move || {
-            let sizes = survey(&file).unwrap();
+            let sizes = survey(&file, Edition::Z3).unwrap();
             assert_eq!((sizes.parts, sizes.assertions), (5, 1));
-            assert_eq!(script(&file, &mut vec![0; sizes.bytes]), Ok(sizes.bytes));
-            assert!(part(&file, 3, &mut vec![0; sizes.longest]).is_ok());
+            assert_eq!(script(&file, Edition::Z3, &mut vec![0; sizes.bytes]), Ok(sizes.bytes));
+            assert!(part(&file, Edition::Z3, 3, &mut vec![0; sizes.longest]).is_ok());
         };
         std::thread::Builder::new().stack_size(640 << 10).spawn(walked).unwrap().join().unwrap();
     }
+}
+
+/// A head that is SetSub of SetEmpty and a union: in both editions, and Z3's is the default.
+#[test]
+fn the_set_functions_have_the_names_of_the_edition() {
+    let empty = b"\x11\x01\x09\x01\0\0\x12\x26\0\0";
+    let union = [&b"\x11\0\x12\x28\x02\0"[..], empty, empty].concat();
+    let file = file_with(0, &[], &[&b"\0\x01\x11\0\x12\x2b\x02\0"[..], empty, &union].concat());
+    for (edition, names) in [(Edition::Z3, ["subset", "emptyset", "union"]), (Edition::Cvc5, ["set.subset", "set.empty", "set.union"])] {
+        let [subset, empty, union] = names;
+        let none = format!("(as {empty} (Set Int))");
+        let assertion = format!("(assert (=> (not ({subset} {none} ({union} {none} {none}))) false))\n");
+        let whole = format!("(set-logic HORN)\n\n\n{assertion}\n(check-sat)\n");
+        let mut buf = [FILLED; 512];
+        assert_eq!(part(&file, edition, 2, &mut buf), Ok(assertion.len()));
+        assert_eq!(&buf[..assertion.len()], assertion.as_bytes());
+        assert_eq!(script(&file, edition, &mut buf), Ok(whole.len()));
+        assert_eq!(&buf[..whole.len()], whole.as_bytes());
+        assert_eq!(survey(&file, edition), Ok(Sizes { parts: 4, assertions: 1, bytes: whole.len(), longest: assertion.len() }));
+    }
+    assert_eq!(Edition::default(), Edition::Z3);
 }

@@ -1,8 +1,10 @@
-// What the program `hornscript` writes for a task file: its script on standard output, or one line `refused N` and nothing else.
+// What the program `hornscript` writes for a task file: its script in the edition of Z3 on standard output, or one line `refused N` and nothing
+// else.
 use flatten::Range;
 use inspect::Inspected;
 use libc::STDOUT_FILENO;
 use smt_horn::Surveyed;
+use smt_text::Edition;
 use trailer::Bounds;
 ghost use Prim.Native.Nat.{_<_, _≤_};
 ghost use Rattle.trailer.specs.Bounds.{Inside};
@@ -10,7 +12,7 @@ ghost use Rattle.names.specs.Table.{Chained};
 
 // Writes the script, or `refused N`: survey's number, or 9 if a part is longer than the 65,536 bytes that are written at once.
 pub fn print_script(file: &[u8]) {
-    let surveyed = smt_horn::survey(file);
+    let surveyed = smt_horn::survey(file, Edition::Z3);
     match surveyed {
         Surveyed::Sizes(parts, _, _, longest) => {
             if longest <= 65536 {
@@ -37,6 +39,7 @@ fn print_parts(file: &[u8], n: usize) {
     let Inspected::Task(b, _, _) = inspected else {
         return;
     };
+    smt_sort::set_edition(&mut table, Edition::Z3);
     print_all(file, b, &table, n);
 }
 

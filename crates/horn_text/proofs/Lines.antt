@@ -8,10 +8,11 @@ use native.Mathlib.Omega.{arith}
 use lib.ListN.{length, getD, length-append}
 use Rattle.smtlib.proofs.Bools.{clash}
 use Rattle.task.specs.Ast.{FunBody, FunDef, Task}
-use Rattle.smt_text.specs.Encoder.{Encoder, encoder}
+use Rattle.smt_text.specs.Editions.{NameTable}
+use Rattle.smt_text.specs.Encoder.{Encoder}
 use Rattle.smt_text.specs.Text.{write-datatype-decl, write-const-decl, write-fun-body, write-fun-def, write-kvar-decl}
 use Rattle.horn_text.specs.Clauses.{clausesOf}
-use Rattle.horn_text.specs.Script.{join, write-assert, write-comment, opening, closing, partsOf}
+use Rattle.horn_text.specs.Script.{join, write-assert, write-comment, opening, closing, encoderOf, partsOf}
 use Rattle.horn_text.specs.Theorems.{Lined, PartsLined, PartsFew}
 
 -- TEXTS
@@ -78,10 +79,10 @@ function-lined enc f none = lined _ (simp final-snoc)
 function-lined enc f (some b) = lined _ (simp final-snoc)
 
 -- all parts
-all-lined : (t : Task) → AllLined (partsOf t)
+all-lined : (names : NameTable) (t : Task) → AllLined (partsOf names t)
 unfolding write-datatype-decl write-const-decl write-fun-def write-kvar-decl write-assert closing
-all-lined t =
-    let enc = encoder (t .datatypes) in
+all-lined names t =
+    let enc = encoderOf names t in
     more (opening-lined (t .comments)) (
     (each (write-datatype-decl enc) (λ d. lined _ (simp final-snoc)) (t .datatypes)
     then each (write-const-decl enc) (λ b. lined _ (simp final-snoc)) (t .constants)
@@ -90,7 +91,7 @@ all-lined t =
     then more (lined _ refl) (each (write-assert enc) (λ c. lined _ (simp final-snoc)) (clausesOf t) then more (lined _ refl) end))
 
 pub parts-lined : PartsLined
-parts-lined t = one (all-lined t)
+parts-lined names t = one (all-lined names t)
 
 pub parts-few : PartsFew
-parts-few t = few (all-lined t)
+parts-few names t = few (all-lined names t)

@@ -88,4 +88,4 @@ pub clauses-number : ClausesNumber
 clauses-number t = heads-number (t .constraint) [] []
 
 pub parts-number : PartsNumber
-parts-number t = simp (length-append, length-map) (omega (arith, clauses-number t))
+parts-number names t = simp (length-append, length-map) (omega (arith, clauses-number t))

@@ -3,7 +3,7 @@
 use Prim.Native.Nat.{ℕ, zero, suc, _+_, _-_}
 use mathlib.Core.Path.{_≡_, refl, sym, ap, _∙_}
 use mathlib.Core.Bool.{Bool, true, false, cond}
-use mathlib.Core.List.{List, [], _∷_, _++_, map, append-assoc}
+use mathlib.Core.List.{List, [], _∷_, _++_, map, append-assoc, map-append}
 use mathlib.Core.Option.{Option, none, some}
 use native.Mathlib.Nat.{add-assoc, zero-sub, sub-zero, suc-sub-suc}
 use native.Mathlib.Omega.{arith}
@@ -11,8 +11,8 @@ use lib.Dec.{T}
 use lib.ListN.{length, take, length-append, length-map, length-take}
 use lib.Seq.{take-nil, take-length}
 use Rattle.smtlib.specs.Lexicon.{bytes, all, visible, reservedWords}
-use Rattle.smtlib.specs.Read.{Sexps, Command, Reading}
-use Rattle.smtlib.specs.Compose.{Says, Follows, Writes}
+use Rattle.smtlib.specs.Read.{Command, Reading}
+use Rattle.smtlib.specs.Compose.{Writes}
 use Rattle.smtlib.specs.Theorems.{Composition}
 use Rattle.smtlib.proofs.Compose.{composition}
 use Rattle.smtlib.proofs.Cut.{cuts}
@@ -23,84 +23,87 @@ use Rattle.task.specs.Fault.{lower, each, textFault, binderFault, predFault, co
 use Rattle.task.specs.Laws.{SoundParts}
 use Rattle.task.specs.Task.{literallyTrue, declarations}
 use Rattle.task.proofs.Judging.{sound-parts}
-use Rattle.smt_text.specs.Encoder.{Encoder, encoder}
+use Rattle.smt_text.specs.Editions.{NameTable, Valid}
+use Rattle.smt_text.specs.Encoder.{Declared, declared, encoder}
+use Rattle.smt_text.specs.Template.{Template, fill, setsInAll, Filled}
 use Rattle.smt_text.specs.Text.{write-binder, write-binders}
 use Rattle.smt_text.specs.Sexp.{row, reserved, symbol, binderSexp, bindersSexp, datatypeCommand, constantCommand, bodyCommand, functionCommand, kvarCommand}
-use Rattle.smt_text.proofs.Spelling.{Each, end, _∣_, in-row, form, command, word, kept, text-holds, binder-says, spelling}
+use Rattle.smt_text.specs.Theorems.{Spelled, Written}
+use Rattle.smt_text.proofs.Spelling.{same, _⊕_, listed, Trailed, trailed-nothing, trailed-list, Each, end, _∣_, first, in-row, listing, form, command, word, kept, text-holds, name-says, sort-says, binder-says, expr-says, pred-says, spelling}
 use Rattle.horn_text.specs.Clauses.{HornClause, flatten-constraint, flatten-constraints, clausesOf}
 use Rattle.horn_text.specs.Clauses as clauses
 use Rattle.horn_text.specs.Script.{join, write-preds, write-guard-conjunction, write-negation, write-implication, write-forall, write-assert, write-comment, write-comments, opening, closing, partsOf, scriptOf}
-use Rattle.horn_text.specs.Commands.{predsSexp, guardsSexp, negationSexp, implicationSexp, forallSexp, assertionCommand, assertionsOf, declarationCommands, commandsOf, isAssertion, assertionsAmong}
-use Rattle.horn_text.specs.Theorems.{ScriptRead, FirstAssertions, AssertionsNumber}
+use Rattle.horn_text.specs.Commands.{predsSexp, guardsSexp, negationSexp, implicationSexp, forallSexp, assertionCommand, assertionsOf, declarationCommands, templatesOf, commandsOf, isAssertion, assertionsAmong}
+use Rattle.horn_text.specs.Theorems.{ScriptRead, ScriptFilled, FirstAssertions, AssertionsNumber}
 use Rattle.horn_text.proofs.Places.{clauses-number}
-open Composition composition using (says-list, says-row, follows-nothing, follows-list, writes-nothing, writes-more, writes-blank, writes-comment, written-read)
+open Composition composition using (writes-nothing, writes-more, writes-blank, writes-comment, written-read)
 open SoundParts sound-parts using (none-left, none-right, none-both)
 
 -- ASSERTIONS
 
 -- pieces behind others
-beside : {vs ws : List (List ℕ)} {xs ys : List Sexps} → Each vs xs → Each ws ys → Each (vs ++ ws) (xs ++ ys)
+beside : {vs ws : NameTable → List (List ℕ)} {xs ys : List Template} → Each vs xs → Each ws ys → Each (λ n. vs n ++ ws n) (xs ++ ys)
 beside end r = r
 beside (s ∣ e) r = s ∣ beside e r
 
-module _ (enc : Encoder) where
+module _ (env : Declared) where
   -- binders without spaces
-  binders-follow : (bs : List Binder) → each binderFault bs ≡ Sound → Follows (join (write-binders enc bs)) (row (bindersSexp enc bs))
+  binders-follow : (bs : List Binder) → each binderFault bs ≡ Sound → Trailed (λ n. join (write-binders (encoder n env) bs)) (row (bindersSexp env bs))
   unfolding write-binder binderSexp binderFault
-  binders-follow [] h = follows-nothing
+  binders-follow [] h = trailed-nothing
   binders-follow (b ∷ bs) h =
       let k = none-left _ _ h in
-      follows-list
-      (in-row (spelling enc .names (b .name) (none-left _ _ k) ∣ spelling enc .sorts (b .sort) (none-right _ _ k) ∣ end))
+      trailed-list
+      (in-row (name-says (b .name) (none-left _ _ k) ∣ sort-says env false (b .sort) (none-right _ _ k) ∣ end))
       (binders-follow bs (none-right _ _ h))
 
   -- each predicate
-  preds-say : (ps : List Pred) → each predFault ps ≡ Sound → Each (write-preds enc ps) (predsSexp enc ps)
+  preds-say : (ps : List Pred) → each predFault ps ≡ Sound → Each (λ n. write-preds (encoder n env) ps) (predsSexp env ps)
   preds-say [] h = end
-  preds-say (p ∷ ps) h = spelling enc .preds p (none-left _ _ h) ∣ preds-say ps (none-right _ _ h)
+  preds-say (p ∷ ps) h = pred-says env p (none-left _ _ h) ∣ preds-say ps (none-right _ _ h)
 
   -- the guards before a KVar head
-  guards-say : (gs : List Pred) → each predFault gs ≡ Sound → Says (write-guard-conjunction enc gs) (guardsSexp enc gs)
+  guards-say : (gs : List Pred) → each predFault gs ≡ Sound → Spelled (λ n. write-guard-conjunction (encoder n env) gs) (guardsSexp env gs)
   unfolding reservedWords
   guards-say [] h = word "true" tt
-  guards-say (g ∷ []) h = spelling enc .preds g (none-left _ _ h)
+  guards-say (g ∷ []) h = pred-says env g (none-left _ _ h)
   guards-say (g ∷ f ∷ gs) h = form (word "and" tt ∣ preds-say (g ∷ f ∷ gs) h)
 
   -- the guards of an expression head, and its negation
-  negation-says : {w : List ℕ} {x : Sexps} (gs : List Pred) → each predFault gs ≡ Sound → Says w x
-      → Says (write-negation enc gs w) (negationSexp enc gs x)
+  negation-says : {w : NameTable → List ℕ} {x : Template} (gs : List Pred) → each predFault gs ≡ Sound → Spelled w x
+      → Spelled (λ n. write-negation (encoder n env) gs (w n)) (negationSexp env gs x)
   unfolding reservedWords
   negation-says [] h s = s
   negation-says (g ∷ gs) h s = form (word "and" tt ∣ beside (preds-say (g ∷ gs) h) (s ∣ end))
 
   -- a head behind its guards
   implication-says : (gs : List Pred) (p : Pred) → each predFault gs ≡ Sound → predFault p ≡ Sound
-      → Says (write-implication enc gs p) (implicationSexp enc gs p)
+      → Spelled (λ n. write-implication (encoder n env) gs p) (implicationSexp env gs p)
   unfolding write-implication implicationSexp predFault reservedWords
-  implication-says gs (Pred.kvar k es) g h = form (word "=>" tt ∣ guards-say gs g ∣ spelling enc .preds (Pred.kvar k es) h ∣ end)
+  implication-says gs (Pred.kvar k es) g h = form (word "=>" tt ∣ guards-say gs g ∣ pred-says env (Pred.kvar k es) h ∣ end)
   implication-says gs (Pred.expr e) g h =
-      form (word "=>" tt ∣ negation-says gs g (form (word "not" tt ∣ spelling enc .exprs e h ∣ end)) ∣ word "false" tt ∣ end)
+      form (word "=>" tt ∣ negation-says gs g (form (word "not" tt ∣ expr-says env false e h ∣ end)) ∣ word "false" tt ∣ end)
 
   -- what stands under the binders, if there are any
-  forall-says : {w : List ℕ} {x : Sexps} (bs : List Binder) → each binderFault bs ≡ Sound → Says w x
-      → Says (write-forall enc bs w) (forallSexp enc bs x)
+  forall-says : {w : NameTable → List ℕ} {x : Template} (bs : List Binder) → each binderFault bs ≡ Sound → Spelled w x
+      → Spelled (λ n. write-forall (encoder n env) bs (w n)) (forallSexp env bs x)
   unfolding reservedWords
   forall-says [] h s = s
   forall-says (b ∷ bs) h s =
       form (kept "forall" tt ∣
-      says-list (says-row (binder-says enc b (none-left _ _ h)) (binders-follow bs (none-right _ _ h))) ∣ s ∣ end)
+      listing (first (binder-says env b (none-left _ _ h)) (binders-follow bs (none-right _ _ h))) ∣ s ∣ end)
 
 -- the fault of a clause
 unfoldable pub clauseFault : HornClause → Fault
 clauseFault c = lower (each binderFault (c .vars)) (lower (each predFault (c .guards)) (predFault (c .head)))
 
 -- the assertion of a clause without fault is its command
-assertion-writes : (enc : Encoder) (c : HornClause) → clauseFault c ≡ Sound → Writes (write-assert enc c) (assertionCommand enc c ∷ [])
+assertion-writes : (env : Declared) (c : HornClause) → clauseFault c ≡ Sound → Written (λ n. write-assert (encoder n env) c) (assertionCommand env c ∷ [])
 unfolding write-assert assertionCommand clauseFault reservedWords
-assertion-writes enc c h =
+assertion-writes env c h =
     let k = none-right _ _ h in
-    let i = implication-says enc (c .guards) (c .head) (none-left _ _ k) (none-right _ _ k) in
-    command (kept "assert" tt ∣ forall-says enc (c .vars) (none-left _ _ h) i ∣ end)
+    let i = implication-says env (c .guards) (c .head) (none-left _ _ k) (none-right _ _ k) in
+    command (kept "assert" tt ∣ forall-says env (c .vars) (none-left _ _ h) i ∣ end)
 
 -- THE CLAUSES ARE WITHOUT FAULT
 
@@ -150,29 +153,50 @@ mutual
 
 -- THE SCRIPT
 
+-- a text without commands, the same for every table
+plain : {w : List ℕ} → Writes w [] → Written (λ n. w) []
+plain {w} h = record { writes = λ n v. h; pieces = same w }
+
+-- the set functions of commands and more commands
+sets-more : (xs ys : List Template) → setsInAll xs ++ setsInAll ys ≡ setsInAll (xs ++ ys)
+sets-more [] ys = refl
+sets-more (x ∷ xs) ys = rw (append-assoc, sets-more xs ys)
+
+-- a text and a text behind it
+more : {u v : NameTable → List ℕ} {xs ys : List Template} → Written u xs → Written v ys → Written (λ n. u n ++ v n) (xs ++ ys)
+more {xs = xs} {ys = ys} h k = record {
+  writes = λ n v. rw (map-append (fill n) xs ys) (writes-more (h .writes n v) (k .writes n v));
+  pieces = listed (h .pieces ⊕ k .pieces) (sets-more xs ys);
+}
+
 -- the parts of two rows, joined
 join-append : (us vs : List (List ℕ)) → join (us ++ vs) ≡ join us ++ join vs
 join-append [] vs = refl
 join-append (u ∷ us) vs = rw (join-append us vs, append-assoc)
 
 -- parts that write commands when they are joined
-record Parts (ws : List (List ℕ)) (cs : List Command) : Type 0 where
-  written : Writes (join ws) cs
+record Parts (ws : NameTable → List (List ℕ)) (xs : List Template) : Type 0 where
+  written : Written (λ n. join (ws n)) xs
 
 -- a part alone
-one-part : {w : List ℕ} {cs : List Command} → Writes w cs → Parts (w ∷ []) (cs ++ [])
-one-part h = record { written = writes-more h writes-nothing }
+one-part : {w : NameTable → List ℕ} {xs : List Template} → Written w xs → Parts (λ n. w n ∷ []) (xs ++ [])
+one-part h = record { written = more h (plain writes-nothing) }
 
 -- parts and more parts
 infixr 5 _then_
-_then_ : {us vs : List (List ℕ)} {cs ds : List Command} → Parts us cs → Parts vs ds → Parts (us ++ vs) (cs ++ ds)
-_then_ {us} {vs} h k = record { written = rw (join-append us vs) (writes-more (h .written) (k .written)) }
+_then_ : {us vs : NameTable → List (List ℕ)} {xs ys : List Template} → Parts us xs → Parts vs ys → Parts (λ n. us n ++ vs n) (xs ++ ys)
+_then_ {us} {vs} {xs} {ys} h k = let w = more (h .written) (k .written) in record {
+  written = record {
+    writes = λ n v. rw (join-append (us n) (vs n)) (w .writes n v);
+    pieces = record { pieces = w .pieces .pieces; are = λ n. join-append (us n) (vs n) ∙ w .pieces .are n; places = w .pieces .places };
+  };
+}
 
 -- a section without fault: a command for each of its items
-section : {A : Type 0} {fault : A → Fault} {text : A → List ℕ} {says : A → Command}
-    → ((a : A) → fault a ≡ Sound → Writes (text a) (says a ∷ [])) → (xs : List A) → each fault xs ≡ Sound → Parts (map text xs) (map says xs)
-section f [] h = record { written = writes-nothing }
-section f (x ∷ xs) h = record { written = writes-more (f x (none-left _ _ h)) (section f xs (none-right _ _ h) .written) }
+section : {A : Type 0} {fault : A → Fault} {text : NameTable → A → List ℕ} {says : A → Template}
+    → ((a : A) → fault a ≡ Sound → Written (λ n. text n a) (says a ∷ [])) → (xs : List A) → each fault xs ≡ Sound → Parts (λ n. map (text n) xs) (map says xs)
+section f [] h = record { written = plain writes-nothing }
+section f (x ∷ xs) h = record { written = more (f x (none-left _ _ h)) (section f xs (none-right _ _ h) .written) }
 
 -- comments are no commands
 comments-write : (cs : List (List ℕ)) → each textFault cs ≡ Sound → Writes (join (map write-comment cs)) []
@@ -190,38 +214,41 @@ heading-writes (c ∷ cs) h = writes-more (comments-write (c ∷ cs) h) writes-b
 
 -- the first part is the first command
 opening-writes : (cs : List (List ℕ)) → each textFault cs ≡ Sound
-    → Writes (opening cs) (row (reserved "set-logic" ∷ symbol "HORN" ∷ []) ∷ [])
+    → Written (λ n. opening cs) (row (reserved "set-logic" ∷ symbol "HORN" ∷ []) ∷ [])
 unfolding opening reservedWords
-opening-writes cs h = writes-more (writes-more (command (kept "set-logic" tt ∣ word "HORN" tt ∣ end)) writes-blank) (heading-writes cs h)
+opening-writes cs h = more (more (command (kept "set-logic" tt ∣ word "HORN" tt ∣ end)) (plain writes-blank)) (plain (heading-writes cs h))
 
 -- the last part is the last command
-closing-writes : Writes closing (row (reserved "check-sat" ∷ []) ∷ [])
+closing-writes : Written (λ n. closing) (row (reserved "check-sat" ∷ []) ∷ [])
 unfolding closing reservedWords
-closing-writes = writes-more writes-blank (command (kept "check-sat" tt ∣ end))
+closing-writes = more (plain writes-blank) (command (kept "check-sat" tt ∣ end))
 
 -- the parts of a task without fault write its commands
-script-parts : (t : Task) → taskFault t ≡ Sound → Parts (partsOf t) (commandsOf t)
+script-parts : (t : Task) → taskFault t ≡ Sound → Parts (λ n. partsOf n t) (templatesOf t)
 unfolding taskFault
 script-parts t h =
-    let enc = encoder (t .datatypes) in
+    let env = declared (t .datatypes) in
     let h1 = none-right _ _ h in
     let h2 = none-right _ _ h1 in
     let h3 = none-right _ _ h2 in
     let h4 = none-right _ _ h3 in
     one-part (opening-writes (t .comments) (none-left _ _ h)) then
-    (section (spelling enc .datatypes) (t .datatypes) (none-left _ _ h1) then
-    section (spelling enc .constants) (t .constants) (none-left _ _ h2) then
-    section (spelling enc .functions) (t .functions) (none-left _ _ h3) then
-    section (spelling enc .kvars) (t .kvars) (none-left _ _ h4)) then
-    one-part writes-blank then
-    section (assertion-writes enc) (clausesOf t) (clauses-sound [] (t .constraint) [] [] refl refl (none-right _ _ h4)) then
+    (section (spelling env .datatypes) (t .datatypes) (none-left _ _ h1) then
+    section (spelling env .constants) (t .constants) (none-left _ _ h2) then
+    section (spelling env .functions) (t .functions) (none-left _ _ h3) then
+    section (spelling env .kvars) (t .kvars) (none-left _ _ h4)) then
+    one-part (plain writes-blank) then
+    section (assertion-writes env) (clausesOf t) (clauses-sound [] (t .constraint) [] [] refl refl (none-right _ _ h4)) then
     one-part closing-writes
 
-pub script-reading : (t : Task) → taskFault t ≡ Sound → Reading (scriptOf t) (commandsOf t)
-script-reading t h = written-read (script-parts t h .written)
+pub script-reading : (names : NameTable) → Valid names → (t : Task) → taskFault t ≡ Sound → Reading (scriptOf names t) (commandsOf names t)
+script-reading names v t h = written-read (script-parts t h .written .writes names v)
 
 pub script-read : ScriptRead
-script-read t h = cuts _ _ (script-reading t h)
+script-read names v t h = cuts _ _ (script-reading names v t h)
+
+pub script-filled : ScriptFilled
+script-filled t h = script-parts t h .written .pieces
 
 -- THE FIRST COMMANDS
 
@@ -231,9 +258,10 @@ data Others : List Command → Type 0 where
   other : {c : Command} {cs : List Command} → isAssertion c ≡ false → Others cs → Others (c ∷ cs)
 
 -- a section of such commands
-others : {A : Type 0} (says : A → Command) → ((a : A) → isAssertion (says a) ≡ false) → (xs : List A) → Others (map says xs)
-others says e [] = nothing
-others says e (x ∷ xs) = other (e x) (others says e xs)
+others : (names : NameTable) {A : Type 0} (says : A → Template) → ((a : A) → isAssertion (fill names (says a)) ≡ false) → (xs : List A)
+    → Others (map (fill names) (map says xs))
+others names says e [] = nothing
+others names says e (x ∷ xs) = other (e x) (others names says e xs)
 
 -- two rows of them
 infixr 5 _and_
@@ -249,39 +277,42 @@ passed (other {cs} e o) rest zero = rw (zero-sub (suc (length cs)))
 passed (other {cs} e o) rest (suc n) = rw (e, passed o rest n, suc-sub-suc)
 
 -- the first assertions are those of the first clauses, and no other follows
-asserted : (enc : Encoder) (cs : List HornClause) (n : ℕ)
-    → assertionsAmong (take n (assertionsOf enc cs ++ row (reserved "check-sat" ∷ []) ∷ [])) ≡ assertionsOf enc (take n cs)
+asserted : (names : NameTable) (env : Declared) (cs : List HornClause) (n : ℕ)
+    → assertionsAmong (take n (assertionsOf names env cs ++ fill names (row (reserved "check-sat" ∷ [])) ∷ [])) ≡ assertionsOf names env (take n cs)
 unfolding assertionCommand
-asserted enc cs zero = refl
-asserted enc [] (suc n) = rw (take-nil n)
-asserted enc (c ∷ cs) (suc n) = rw (asserted enc cs n)
+asserted names env cs zero = refl
+asserted names env [] (suc n) = rw (take-nil n)
+asserted names env (c ∷ cs) (suc n) = rw (asserted names env cs n)
 
 -- a function with or without a body
-function-other : (enc : Encoder) (f : FunDef) (o : Option FunBody) → isAssertion (bodyCommand enc f o) ≡ false
-function-other enc f none = refl
-function-other enc f (some b) = refl
+function-other : (names : NameTable) (env : Declared) (f : FunDef) (o : Option FunBody) → isAssertion (fill names (bodyCommand env f o)) ≡ false
+function-other names env f none = refl
+function-other names env f (some b) = refl
 
 -- no declaration is an assertion
-declarations-other : (enc : Encoder) (t : Task) → Others (declarationCommands enc t)
+declarations-other : (names : NameTable) (env : Declared) (t : Task) → Others (map (fill names) (declarationCommands env t))
 unfolding datatypeCommand constantCommand functionCommand kvarCommand
-declarations-other enc t =
-    others (datatypeCommand enc) (λ d. refl) (t .datatypes) and
-    others (constantCommand enc) (λ b. refl) (t .constants) and
-    others (functionCommand enc) (λ f. function-other enc f (f .body)) (t .functions) and
-    others (kvarCommand enc) (λ k. refl) (t .kvars)
+declarations-other names env t =
+    rw (map-append (fill names), map-append (fill names), map-append (fill names)) (
+    others names (datatypeCommand env) (λ d. refl) (t .datatypes) and
+    others names (constantCommand env) (λ b. refl) (t .constants) and
+    others names (functionCommand env) (λ f. function-other names env f (f .body)) (t .functions) and
+    others names (kvarCommand env) (λ k. refl) (t .kvars))
 
 pub first-assertions : FirstAssertions
-first-assertions t n =
-    let enc = encoder (t .datatypes) in
-    let e : length (declarationCommands enc t) ≡ declarations t = simp (length-append, length-map, add-assoc) in
-    passed (other refl (declarations-other enc t)) _ n ∙ rw e (asserted enc (clausesOf t) (n - suc (declarations t)))
+first-assertions names t n =
+    let env = declared (t .datatypes) in
+    let e : length (map (fill names) (declarationCommands env t)) ≡ declarations t = simp (length-append, length-map, add-assoc) in
+    rw (map-append (fill names) (declarationCommands env t), map-append (fill names) (map (assertionCommand env) (clausesOf t)))
+    (passed (other refl (declarations-other names env t)) _ n ∙ rw e (asserted names env (clausesOf t) (n - suc (declarations t))))
 
 pub assertions-number : AssertionsNumber
-assertions-number t =
-    let enc = encoder (t .datatypes) in
-    let n = length (commandsOf t) in
+assertions-number names t =
+    let env = declared (t .datatypes) in
+    let n = length (commandsOf names t) in
     let m = n - suc (declarations t) in
-    let e : n ≡ suc (declarations t + (length (clausesOf t) + 1)) = simp (length-append, length-map) (omega arith) in
+    let e : n ≡ suc (declarations t + (length (clausesOf t) + 1)) = simp (length-map, length-append) (omega arith) in
     let g : length (take m (clausesOf t)) ≡ length (clausesOf t) = simp length-take (omega arith) in
-    ap (λ (cs : List Command). length (assertionsAmong cs)) (sym (take-length (commandsOf t)))
-    ∙ ap length (first-assertions t n) ∙ length-map (take m (clausesOf t)) (assertionCommand enc) ∙ g ∙ clauses-number t
+    let k : length (assertionsOf names env (take m (clausesOf t))) ≡ length (take m (clausesOf t)) = simp length-map in
+    ap (λ (cs : List Command). length (assertionsAmong cs)) (sym (take-length (commandsOf names t)))
+    ∙ ap length (first-assertions names t n) ∙ k ∙ g ∙ clauses-number t

@@ -16,7 +16,9 @@ use Rattle.task.specs.Fault.{lower, nameFault, textFault, sortFault, sortsFault
 use Rattle.task.specs.Scope.{takenNames, everywhere, inConstraint, arityOf, knownFault, exprScope, bodyScope, functionsScope, globalsOf, predScope, constraintNames, namesFault}
 use Rattle.task.specs.Task.{bound, framed, decoded, firstFault, judged, taskOf, literallyTrue}
 use Rattle.task.specs.Returns.{every}
-use Rattle.smt_text.specs.Text.{write-name, write-string, write-sort, write-binder, write-expr, write-pred, write-ctor, write-datatype-decl, write-const-decl, write-kvar-decl}
+use Rattle.smt_text.specs.Editions.{namesOf}
+use Rattle.smt_text.specs.Theory.{thyFuncName}
+use Rattle.smt_text.specs.Text.{write-application-head, write-name, write-string, write-thy-func, write-sort, write-binder, write-expr, write-pred, write-ctor, write-datatype-decl, write-const-decl, write-kvar-decl}
 use Rattle.horn_text.specs.Clauses.{flatten-constraint}
 use Rattle.horn_text.specs.Script.{write-implication, write-assert, opening, closing}
 use Rattle.horn_text.specs.Answers.{surveyAnswer, partAnswer, partBuffer, scriptAnswer, scriptBuffer}
@@ -24,7 +26,7 @@ use Rattle.horn_text.specs.Table.{caseS, Table}
 use Rattle.horn_text.specs.Numbers.{placeOf, Numbers}
 
 pub table : Table
-unfolding caseS surveyAnswer partAnswer partBuffer scriptAnswer scriptBuffer taskOf framed bound decoded judged raw items sortForms decSort binRels exprForms decExpr decPred decConstraint lower nameFault textFault sortFault binderFault exprFault predFault shadowFault constraintFault dataCtorFault emptyFault datatypeFault kvarFault taskFault takenNames everywhere inConstraint arityOf knownFault exprScope bodyScope functionsScope globalsOf predScope constraintNames namesFault firstFault reservedWords literallyTrue flatten-constraint decimal write-name write-string write-sort write-binder write-expr write-pred write-ctor write-datatype-decl write-const-decl write-kvar-decl write-implication write-assert opening closing
+unfolding namesOf thyFuncName write-thy-func write-application-head thyFuncs needsSort thyFuncFault sortsFault exprsFault caseS surveyAnswer partAnswer partBuffer scriptAnswer scriptBuffer taskOf framed bound decoded judged raw items sortForms decSort binRels exprForms decExpr decPred decConstraint lower nameFault textFault sortFault binderFault exprFault predFault shadowFault constraintFault dataCtorFault emptyFault datatypeFault kvarFault taskFault takenNames everywhere inConstraint arityOf knownFault exprScope bodyScope functionsScope globalsOf predScope constraintNames namesFault firstFault reservedWords literallyTrue flatten-constraint decimal write-name write-string write-sort write-binder write-expr write-pred write-ctor write-datatype-decl write-const-decl write-kvar-decl write-implication write-assert opening closing
 table = record {
   s-length = refl;
   s-survey = refl;
@@ -46,6 +48,9 @@ table = record {
   true-script = refl;
   too-short = refl;
   no-constraint = refl;
+  sets-z3 = refl;
+  sets-cvc5 = refl;
+  s-cvc5 = refl;
 }
 
 -- THE ORDER OF FAULTS
@@ -85,16 +90,16 @@ in-order : (f g : Fault) → placeOf (lower f g) ≡ min (placeOf f) (placeOf g)
 in-order f g = eqb→eq _ _ (each-holds (inOrder f) (each-holds (λ h. every (inOrder h) faults) all-in-order f) g)
 
 pub numbers : Numbers
-unfolding surveyAnswer partAnswer partBuffer scriptAnswer scriptBuffer taskOf framed bound decoded judged raw items sortForms decSort binRels quantifiers exprForms decExpr decPred decConstraint lower nameFault sortFault binderFault exprFault predFault shadowFault constraintFault dataCtorFault emptyFault datatypeFault kvarFault taskFault takenNames everywhere inConstraint arityOf knownFault exprScope bodyScope functionsScope globalsOf predScope constraintNames namesFault firstFault reservedWords literallyTrue flatten-constraint decimal write-name write-sort write-binder write-expr write-pred write-ctor write-datatype-decl write-const-decl write-kvar-decl write-implication write-assert opening closing thyFuncs textFault sortsFault needsSort thyFuncFault exprsFault arityFault bodyFault functionFault constraintsFault
+unfolding namesOf surveyAnswer partAnswer partBuffer scriptAnswer scriptBuffer taskOf framed bound decoded judged raw items sortForms decSort binRels quantifiers exprForms decExpr decPred decConstraint lower nameFault sortFault binderFault exprFault predFault shadowFault constraintFault dataCtorFault emptyFault datatypeFault kvarFault taskFault takenNames everywhere inConstraint arityOf knownFault exprScope bodyScope functionsScope globalsOf predScope constraintNames namesFault firstFault reservedWords literallyTrue flatten-constraint decimal write-name write-sort write-binder write-expr write-pred write-ctor write-datatype-decl write-const-decl write-kvar-decl write-implication write-assert opening closing thyFuncs textFault sortsFault needsSort thyFuncFault exprsFault arityFault bodyFault functionFault constraintsFault
 numbers = record {
-  survey = refl;
+  survey = λ names. refl;
   listed = refl;
-  forms = refl;
-  texts = refl;
-  clashes = refl;
-  unknowns = refl;
-  fine = tt;
-  known = tt;
+  forms = λ names. refl;
+  texts = λ names. refl;
+  clashes = λ names. refl;
+  unknowns = λ names. refl;
+  fine = λ names. tt;
+  known = λ names. tt;
   order = in-order;
   no-part = refl;
   part-short = refl;

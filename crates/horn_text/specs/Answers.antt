@@ -1,4 +1,4 @@
--- What the three calls answer and leave in the buffer, at every file, number and buffer: document 01, "What each call says no to".
+-- What the three calls answer and leave in the buffer, at every table of names, file, number and buffer: document 01, "What each call says no to".
 use Prim.Native.Nat.{ℕ}
 use mathlib.Core.Bool.{cond}
 use mathlib.Core.List.{List, [], _∷_, _++_}
@@ -7,6 +7,7 @@ use lib.ListN.{length, drop, getD}
 use Rattle.task.specs.Ast.{Task}
 use Rattle.task.specs.Decode.{Res, got, refuse}
 use Rattle.task.specs.Task.{taskOf}
+use Rattle.smt_text.specs.Editions.{NameTable}
 use Rattle.horn_text.specs.Clauses.{clausesOf}
 use Rattle.horn_text.specs.Script.{join, partsOf, scriptOf, longest}
 
@@ -25,13 +26,13 @@ surveyPlaces = (1 ∷ []) ∷ (2 ∷ 3 ∷ []) ∷ (4 ∷ []) ∷ (5 ∷ []) ∷
 abbrev pub surveyNumbers : List ℕ
 surveyNumbers = join surveyPlaces
 
-abbrev pub surveyOf : Res Task → Answer
-surveyOf (got t end) = values (length (partsOf t) ∷ length (clausesOf t) ∷ length (scriptOf t) ∷ longest (partsOf t) ∷ [])
-surveyOf (refuse n) = refused n
+abbrev pub surveyOf : NameTable → Res Task → Answer
+surveyOf names (got t end) = values (length (partsOf names t) ∷ length (clausesOf t) ∷ length (scriptOf names t) ∷ longest (partsOf names t) ∷ [])
+surveyOf names (refuse n) = refused n
 
 -- the numbers of parts and of assertions, the length of the script and that of its longest part; or a number of the list
-unfoldable pub surveyAnswer : List ℕ → Answer
-surveyAnswer file = surveyOf (taskOf file)
+unfoldable pub surveyAnswer : NameTable → List ℕ → Answer
+surveyAnswer names file = surveyOf names (taskOf file)
 
 -- A TEXT IN A BUFFER
 
@@ -45,36 +46,36 @@ laid text buf = cond (leb (length text) (length buf)) (text ++ drop (length text
 
 -- PART
 
-abbrev pub partOf : Res Task → ℕ → ℕ → Answer
-partOf (got t end) i room = cond (ltb i (length (partsOf t))) (fitted (getD (partsOf t) i []) room) (refused 8)
-partOf (refuse n) i room = refused n
+abbrev pub partOf : NameTable → Res Task → ℕ → ℕ → Answer
+partOf names (got t end) i room = cond (ltb i (length (partsOf names t))) (fitted (getD (partsOf names t) i []) room) (refused 8)
+partOf names (refuse n) i room = refused n
 
 -- the length of part i; or survey's refusal, then 8 if there is no such part, then 9
-unfoldable pub partAnswer : List ℕ → ℕ → ℕ → Answer
-partAnswer file i room = partOf (taskOf file) i room
+unfoldable pub partAnswer : NameTable → List ℕ → ℕ → ℕ → Answer
+partAnswer names file i room = partOf names (taskOf file) i room
 
-abbrev pub partLaid : Res Task → ℕ → List ℕ → List ℕ
-partLaid (got t end) i buf = cond (ltb i (length (partsOf t))) (laid (getD (partsOf t) i []) buf) buf
-partLaid (refuse n) i buf = buf
+abbrev pub partLaid : NameTable → Res Task → ℕ → List ℕ → List ℕ
+partLaid names (got t end) i buf = cond (ltb i (length (partsOf names t))) (laid (getD (partsOf names t) i []) buf) buf
+partLaid names (refuse n) i buf = buf
 
 -- what is in the buffer then
-unfoldable pub partBuffer : List ℕ → ℕ → List ℕ → List ℕ
-partBuffer file i buf = partLaid (taskOf file) i buf
+unfoldable pub partBuffer : NameTable → List ℕ → ℕ → List ℕ → List ℕ
+partBuffer names file i buf = partLaid names (taskOf file) i buf
 
 -- SCRIPT
 
-abbrev pub scriptFitted : Res Task → ℕ → Answer
-scriptFitted (got t end) room = fitted (scriptOf t) room
-scriptFitted (refuse n) room = refused n
+abbrev pub scriptFitted : NameTable → Res Task → ℕ → Answer
+scriptFitted names (got t end) room = fitted (scriptOf names t) room
+scriptFitted names (refuse n) room = refused n
 
 -- the length of the script; or survey's refusal, then 9
-unfoldable pub scriptAnswer : List ℕ → ℕ → Answer
-scriptAnswer file room = scriptFitted (taskOf file) room
+unfoldable pub scriptAnswer : NameTable → List ℕ → ℕ → Answer
+scriptAnswer names file room = scriptFitted names (taskOf file) room
 
-abbrev pub scriptLaid : Res Task → List ℕ → List ℕ
-scriptLaid (got t end) buf = laid (scriptOf t) buf
-scriptLaid (refuse n) buf = buf
+abbrev pub scriptLaid : NameTable → Res Task → List ℕ → List ℕ
+scriptLaid names (got t end) buf = laid (scriptOf names t) buf
+scriptLaid names (refuse n) buf = buf
 
 -- what is in the buffer then
-unfoldable pub scriptBuffer : List ℕ → List ℕ → List ℕ
-scriptBuffer file buf = scriptLaid (taskOf file) buf
+unfoldable pub scriptBuffer : NameTable → List ℕ → List ℕ → List ℕ
+scriptBuffer names file buf = scriptLaid names (taskOf file) buf

@@ -1,5 +1,7 @@
 -- The customer's three demands, of what the calls answer and leave in the buffer. The contracts of `survey`, `part` and `script` equate
--- their results and buffers with the definitions named here, and `script` promises demand 3 of the buffer that it leaves.
+-- their results and buffers with the definitions named here, and `script` promises demand 3 of the buffer that it leaves. W-205: the demands hold
+-- for a table of names as such, the second and the third for every valid one; the tables of the two editions are such (`Tables` of
+-- smt_text/specs/Table.antt).
 use Prim.Native.Nat.{ℕ, zero, suc, _+_, _-_, _^_, _≤_, _<_}
 use mathlib.Core.Path.{_≡_}
 use mathlib.Core.Logic.{_↔_, _⊎_}
@@ -13,10 +15,13 @@ use Rattle.smtlib.specs.Theorems.{OnlyReading}
 use Rattle.task.specs.Ast.{Task}
 use Rattle.task.specs.Decode.{got}
 use Rattle.task.specs.Task.{taskOf, declarations, headsOf}
-use Rattle.smt_text.specs.Encoder.{encoder}
+use Rattle.smt_text.specs.Editions.{NameTable, Valid}
+use Rattle.smt_text.specs.Encoder.{declared}
+use Rattle.smt_text.specs.Template.{setsInAll, Filled}
+use Rattle.smt_text.specs.Table.{ThyFuncTexts}
 use Rattle.horn_text.specs.Clauses.{clausesOf, placesOf, clausesAt}
 use Rattle.horn_text.specs.Script.{join, partsOf, scriptOf, longest}
-use Rattle.horn_text.specs.Commands.{assertionsOf, commandsOf, assertionsAmong}
+use Rattle.horn_text.specs.Commands.{templatesOf, assertionsOf, commandsOf, assertionsAmong}
 use Rattle.horn_text.specs.Returns.{write-smt-horn-returns}
 use Rattle.horn_text.specs.Theorems.{Lined}
 use Rattle.horn_text.specs.Answers.{values, refused, surveyNumbers, surveyAnswer, partAnswer, partBuffer, scriptAnswer, scriptBuffer}
@@ -33,98 +38,104 @@ pub record Accepted (file : List ℕ) : Type 0 where
   pub end : ℕ
   pub holds : taskOf file ≡ got task end
 
--- a file that survey refuses
+-- a file that survey refuses, with one number whatever the table
 pub record Refused (file : List ℕ) : Type 0 where
   pub number : ℕ
-  pub answers : surveyAnswer file ≡ refused number
+  pub answers : (names : NameTable) → surveyAnswer names file ≡ refused number
 
 -- part i of a task's script
-abbrev pub nth : Task → ℕ → List ℕ
-nth t i = getD (partsOf t) i []
+abbrev pub nth : NameTable → Task → ℕ → List ℕ
+nth names t i = getD (partsOf names t) i []
 
 pub record Demand1 : Type 0 where
   -- A file of whatever bytes is accepted, or it is refused with one number.
   pub any-bytes : (file : List ℕ) → Accepted file ⊎ Refused file
   -- the number is on the list
-  pub survey : (file : List ℕ) (n : ℕ) → surveyAnswer file ≡ refused n → T (any (eqb n) surveyNumbers)
+  pub survey : (names : NameTable) (file : List ℕ) (n : ℕ) → surveyAnswer names file ≡ refused n → T (any (eqb n) surveyNumbers)
   -- What the original panics on is refused: for the task of every file that is accepted its writer returns.
   pub returns : (file : List ℕ) (t : Task) (end : ℕ) → taskOf file ≡ got t end → T (write-smt-horn-returns t)
-  -- What survey refuses every call refuses, with that number.
-  pub part : (file : List ℕ) (n i room : ℕ) → surveyAnswer file ≡ refused n → partAnswer file i room ≡ refused n
-  pub script : (file : List ℕ) (n room : ℕ) → surveyAnswer file ≡ refused n → scriptAnswer file room ≡ refused n
+  -- What survey refuses every call refuses, with that number, also with another table.
+  pub part : (names names' : NameTable) (file : List ℕ) (n i room : ℕ) → surveyAnswer names file ≡ refused n → partAnswer names' file i room ≡ refused n
+  pub script : (names names' : NameTable) (file : List ℕ) (n room : ℕ) → surveyAnswer names file ≡ refused n → scriptAnswer names' file room ≡ refused n
   -- Of a file that is accepted survey refuses nothing;
-  pub survey-refuses : (file : List ℕ) (t : Task) (end : ℕ) → taskOf file ≡ got t end → (n : ℕ) → surveyAnswer file ≡ refused n → ⊥
+  pub survey-refuses : (names : NameTable) (file : List ℕ) (t : Task) (end : ℕ) → taskOf file ≡ got t end → (n : ℕ) → surveyAnswer names file ≡ refused n → ⊥
   -- part refuses with 8 exactly if there is no such part, and else with 9 exactly if it is longer than the room;
-  pub part-refuses : (file : List ℕ) (t : Task) (end : ℕ) → taskOf file ≡ got t end → (i room n : ℕ) → (partAnswer file i room ≡ refused n)
-      ↔ (((n ≡ 8) × (length (partsOf t) ≤ i)) ⊎ ((n ≡ 9) × (i < length (partsOf t)) × (room < length (nth t i))))
+  pub part-refuses : (names : NameTable) (file : List ℕ) (t : Task) (end : ℕ) → taskOf file ≡ got t end → (i room n : ℕ) → (partAnswer names file i room ≡ refused n)
+      ↔ (((n ≡ 8) × (length (partsOf names t) ≤ i)) ⊎ ((n ≡ 9) × (i < length (partsOf names t)) × (room < length (nth names t i))))
   -- script refuses with 9 exactly if the script is longer than the room.
-  pub script-refuses : (file : List ℕ) (t : Task) (end : ℕ) → taskOf file ≡ got t end → (room n : ℕ)
-      → (scriptAnswer file room ≡ refused n) ↔ ((n ≡ 9) × (room < length (scriptOf t)))
+  pub script-refuses : (names : NameTable) (file : List ℕ) (t : Task) (end : ℕ) → taskOf file ≡ got t end → (room n : ℕ)
+      → (scriptAnswer names file room ≡ refused n) ↔ ((n ≡ 9) × (room < length (scriptOf names t)))
   -- A refusal changes no byte of the buffer.
-  pub part-unchanged : (file : List ℕ) (i n : ℕ) (buf : List ℕ) → partAnswer file i (length buf) ≡ refused n → partBuffer file i buf ≡ buf
-  pub script-unchanged : (file : List ℕ) (n : ℕ) (buf : List ℕ) → scriptAnswer file (length buf) ≡ refused n → scriptBuffer file buf ≡ buf
+  pub part-unchanged : (names : NameTable) (file : List ℕ) (i n : ℕ) (buf : List ℕ) → partAnswer names file i (length buf) ≡ refused n → partBuffer names file i buf ≡ buf
+  pub script-unchanged : (names : NameTable) (file : List ℕ) (n : ℕ) (buf : List ℕ) → scriptAnswer names file (length buf) ≡ refused n → scriptBuffer names file buf ≡ buf
 
 -- DEMAND 2
 
 -- what n calls of part, from number i on, each into a buffer of its own, put at the buffers' starts
-abbrev pub partsWritten : List ℕ → (ℕ → List ℕ) → (ℕ → ℕ) → ℕ → ℕ → List (List ℕ)
-partsWritten file bufs lengths i zero = []
-partsWritten file bufs lengths i (suc n) = take (lengths i) (partBuffer file i (bufs i)) ∷ partsWritten file bufs lengths (suc i) n
+abbrev pub partsWritten : NameTable → List ℕ → (ℕ → List ℕ) → (ℕ → ℕ) → ℕ → ℕ → List (List ℕ)
+partsWritten names file bufs lengths i zero = []
+partsWritten names file bufs lengths i (suc n) = take (lengths i) (partBuffer names file i (bufs i)) ∷ partsWritten names file bufs lengths (suc i) n
 
 -- of a file that holds the task t
-pub record Script (file : List ℕ) (t : Task) : Type 0 where
+pub record Script (names : NameTable) (file : List ℕ) (t : Task) : Type 0 where
   -- the reported numbers are those of the script: D + A + 3 parts, A assertions, its length, the length of its longest part
-  pub reported : surveyAnswer file ≡ values (length (partsOf t) ∷ headsOf (t .constraint) ∷ length (scriptOf t) ∷ longest (partsOf t) ∷ [])
-  pub parts : length (partsOf t) ≡ declarations t + headsOf (t .constraint) + 3
-  pub short : length (scriptOf t) < 2 ^ 40
+  pub reported : surveyAnswer names file ≡ values (length (partsOf names t) ∷ headsOf (t .constraint) ∷ length (scriptOf names t) ∷ longest (partsOf names t) ∷ [])
+  pub parts : length (partsOf names t) ≡ declarations t + headsOf (t .constraint) + 3
+  pub short : length (scriptOf names t) < 2 ^ 40
+  pub short-parts : longest (partsOf names t) < 2 ^ 32
   -- as many assertions are called for, and as many are in every reading of the script
-  pub assertions : length (assertionsAmong (commandsOf t)) ≡ headsOf (t .constraint)
-  pub assertions-read : (cs : List Command) → Reading (scriptOf t) cs → length (assertionsAmong cs) ≡ headsOf (t .constraint)
+  pub assertions : length (assertionsAmong (commandsOf names t)) ≡ headsOf (t .constraint)
+  pub assertions-read : (cs : List Command) → Reading (scriptOf names t) cs → length (assertionsAmong cs) ≡ headsOf (t .constraint)
   -- every part ends in a line feed
-  pub lined : (i : ℕ) → i < length (partsOf t) → Lined (nth t i)
+  pub lined : (i : ℕ) → i < length (partsOf names t) → Lined (nth names t i)
   -- part i is the i-th, at the start of any buffer with room for it, and the bytes behind it are unchanged
-  pub part-length : (i room : ℕ) → i < length (partsOf t) → length (nth t i) ≤ room → partAnswer file i room ≡ values (length (nth t i) ∷ [])
-  pub part-text : (i : ℕ) (buf : List ℕ) → i < length (partsOf t) → length (nth t i) ≤ length buf
-      → take (length (nth t i)) (partBuffer file i buf) ≡ nth t i
-  pub part-rest : (i : ℕ) (buf : List ℕ) → i < length (partsOf t) → length (nth t i) ≤ length buf
-      → drop (length (nth t i)) (partBuffer file i buf) ≡ drop (length (nth t i)) buf
+  pub part-length : (i room : ℕ) → i < length (partsOf names t) → length (nth names t i) ≤ room → partAnswer names file i room ≡ values (length (nth names t i) ∷ [])
+  pub part-text : (i : ℕ) (buf : List ℕ) → i < length (partsOf names t) → length (nth names t i) ≤ length buf
+      → take (length (nth names t i)) (partBuffer names file i buf) ≡ nth names t i
+  pub part-rest : (i : ℕ) (buf : List ℕ) → i < length (partsOf names t) → length (nth names t i) ≤ length buf
+      → drop (length (nth names t i)) (partBuffer names file i buf) ≡ drop (length (nth names t i)) buf
   -- so is the script
-  pub script-length : (room : ℕ) → length (scriptOf t) ≤ room → scriptAnswer file room ≡ values (length (scriptOf t) ∷ [])
-  pub script-text : (buf : List ℕ) → length (scriptOf t) ≤ length buf → take (length (scriptOf t)) (scriptBuffer file buf) ≡ scriptOf t
-  pub script-rest : (buf : List ℕ) → length (scriptOf t) ≤ length buf
-      → drop (length (scriptOf t)) (scriptBuffer file buf) ≡ drop (length (scriptOf t)) buf
+  pub script-length : (room : ℕ) → length (scriptOf names t) ≤ room → scriptAnswer names file room ≡ values (length (scriptOf names t) ∷ [])
+  pub script-text : (buf : List ℕ) → length (scriptOf names t) ≤ length buf → take (length (scriptOf names t)) (scriptBuffer names file buf) ≡ scriptOf names t
+  pub script-rest : (buf : List ℕ) → length (scriptOf names t) ≤ length buf
+      → drop (length (scriptOf names t)) (scriptBuffer names file buf) ≡ drop (length (scriptOf names t)) buf
   -- the parts, as the calls write them, joined are the script, as the call writes it
-  pub joined : (bufs : ℕ → List ℕ) (buf : List ℕ) → ((i : ℕ) → i < length (partsOf t) → length (nth t i) ≤ length (bufs i))
-      → length (scriptOf t) ≤ length buf
-      → join (partsWritten file bufs (λ i. length (nth t i)) 0 (length (partsOf t))) ≡ take (length (scriptOf t)) (scriptBuffer file buf)
+  pub joined : (bufs : ℕ → List ℕ) (buf : List ℕ) → ((i : ℕ) → i < length (partsOf names t) → length (nth names t i) ≤ length (bufs i))
+      → length (scriptOf names t) ≤ length buf
+      → join (partsWritten names file bufs (λ i. length (nth names t i)) 0 (length (partsOf names t))) ≡ take (length (scriptOf names t)) (scriptBuffer names file buf)
 
--- of every file that is accepted
-abbrev pub Demand2 : Type 0
-Demand2 = (file : List ℕ) (t : Task) (end : ℕ) → Bytes file → taskOf file ≡ got t end → Script file t
+pub record Demand2 : Type 0 where
+  -- of every file that is accepted, with every valid table
+  pub scripts : (names : NameTable) → Valid names → (file : List ℕ) (t : Task) (end : ℕ) → Bytes file → taskOf file ≡ got t end → Script names file t
+  -- The text of the two source files is claimed of the table of Z3 alone: its names are the source's.
+  pub source : ThyFuncTexts
+  -- W-205: two scripts of one task differ only in the tokens that the set functions gave. For every table the script is one list of pieces filled
+  -- in from it, and the set functions in that list are, one to one and in order, those of the templates that the commands are filled in from.
+  pub tables : (file : List ℕ) (t : Task) (end : ℕ) → taskOf file ≡ got t end → Filled (λ names. scriptOf names t) (setsInAll (templatesOf t))
 
 -- DEMAND 3
 
 -- of a buffer at whose start the script of the task t stands
-pub record Carries (t : Task) (buf : List ℕ) : Type 0 where
+pub record Carries (names : NameTable) (t : Task) (buf : List ℕ) : Type 0 where
   -- Wherever outside a command a reader stops, the text so far has a reading and no other: the first commands that the task calls for,
   -- as many as have closed by then.
-  pub cut : (k : ℕ) → k ≤ length (scriptOf t) → outside buf k → OnlyReading (take k buf) (take (closed buf k) (commandsOf t))
+  pub cut : (k : ℕ) → k ≤ length (scriptOf names t) → outside buf k → OnlyReading (take k buf) (take (closed buf k) (commandsOf names t))
   -- before the first byte and behind the last are such places, and at the end all commands have closed
   pub first : outside buf 0
-  pub last : outside buf (length (scriptOf t))
-  pub complete : closed buf (length (scriptOf t)) ≡ length (commandsOf t)
+  pub last : outside buf (length (scriptOf names t))
+  pub complete : closed buf (length (scriptOf names t)) ≡ length (commandsOf names t)
   -- the assertions among the first n commands are, one to one and in order, those of the first clauses
   pub assertions : (n : ℕ)
-      → assertionsAmong (take n (commandsOf t)) ≡ assertionsOf (encoder (t .datatypes)) (take (n - suc (declarations t)) (clausesOf t))
+      → assertionsAmong (take n (commandsOf names t)) ≡ assertionsOf names (declared (t .datatypes)) (take (n - suc (declarations t)) (clausesOf t))
   -- the clauses are, one to one and in order, those of the heads that are not literally true: each has exactly the binders of the ForAlls
   -- that hold its head, the outermost first, and exactly their predicates that are not literally true
   pub clauses : clausesOf t ≡ clausesAt (placesOf (t .constraint))
 
 -- what `script` promises of the buffer that it leaves: for every file that is accepted and every buffer with room for the script
-unfoldable pub Promised : List ℕ → List ℕ → List ℕ → Type 0
-Promised file before after =
-    (t : Task) (end : ℕ) → taskOf file ≡ got t end → length (scriptOf t) ≤ length before → Carries t after
+unfoldable pub Promised : NameTable → List ℕ → List ℕ → List ℕ → Type 0
+Promised names file before after =
+    (t : Task) (end : ℕ) → taskOf file ≡ got t end → length (scriptOf names t) ≤ length before → Carries names t after
 
 -- the call leaves `scriptBuffer`
 abbrev pub Demand3 : Type 0
-Demand3 = (file buf : List ℕ) → Promised file buf (scriptBuffer file buf)
+Demand3 = (names : NameTable) → Valid names → (file buf : List ℕ) → Promised names file buf (scriptBuffer names file buf)

@@ -11,6 +11,8 @@ use Rattle.smtlib.specs.Lexicon.{bytes, any}
 use Rattle.task.specs.declared.Fault.{Fault}
 use Rattle.task.specs.Fault.{refusalOf, lower}
 use Rattle.task.specs.Returns.{every}
+use Rattle.smt_text.specs.declared.Edition.the-variants.{Z3}
+use Rattle.smt_text.specs.Editions.{NameTable}
 use Rattle.horn_text.specs.Answers.{Answer, values, refused, surveyPlaces, surveyNumbers, surveyAnswer}
 use Rattle.horn_text.specs.Table.{zeros, partCall, scriptCall, offset, fileWith, fileOf, constraintOnly, named, var, string, exprPred, head, trueHead}
 
@@ -106,9 +108,9 @@ underX e = forAllX (head (exprPred e))
 abbrev pub Row : Type 0
 Row = ℕ × List ℕ
 
--- survey answers each file with its number
+-- survey answers each file with its number, whatever the table
 abbrev pub Get : List Row → Type 0
-Get rows = map (λ r. surveyAnswer (r .1)) rows ≡ map (λ r. refused (r .0)) rows
+Get rows = (names : NameTable) → map (λ r. surveyAnswer names (r .1)) rows ≡ map (λ r. refused (r .0)) rows
 
 -- A file for each number that survey can answer. 1: 27 zero bytes. 2: 24 zero bytes and the mark. 3: an expression head of 254 Nots, whose last
 -- operand is due at level 257. 4: a comment with a line feed. 5: a datatype without constructors. 12: a BitVec of Int. 13: a bare SetEmpty as a
@@ -245,13 +247,13 @@ pub record Numbers : Type 0 where
   pub clashes : Get clashFiles
   pub unknowns : Get unknownFiles
   -- and these get none
-  pub fine : T (every (λ f. accepts (surveyAnswer f)) fineFiles)
-  pub known : T (every (λ f. accepts (surveyAnswer f)) knownFiles)
+  pub fine : (names : NameTable) → T (every (λ f. accepts (surveyAnswer names f)) fineFiles)
+  pub known : (names : NameTable) → T (every (λ f. accepts (surveyAnswer names f)) knownFiles)
   -- the faults are judged in the order of the list: of two the one whose number has the place further in front
   pub order : (f g : Fault) → placeOf (lower f g) ≡ min (placeOf f) (placeOf g)
   -- there is no part 3 of the smallest file
-  pub no-part : partCall smallest 3 (zeros 18) ≡ (refused 8, zeros 18)
+  pub no-part : partCall Z3 smallest 3 (zeros 18) ≡ (refused 8, zeros 18)
   -- its opening has 18 bytes
-  pub part-short : partCall smallest 0 (zeros 17) ≡ (refused 9, zeros 17)
+  pub part-short : partCall Z3 smallest 0 (zeros 17) ≡ (refused 9, zeros 17)
   -- its script has 32 bytes
-  pub script-short : scriptCall smallest (zeros 31) ≡ (refused 9, zeros 31)
+  pub script-short : scriptCall Z3 smallest (zeros 31) ≡ (refused 9, zeros 31)

@@ -5,7 +5,8 @@ use lib.ListN.{length}
 use Rattle.smtlib.specs.Lexicon.{bytes}
 use Rattle.smtlib.specs.Compose.{paren, line}
 use Rattle.task.specs.Ast.{Binder, Pred, Task}
-use Rattle.smt_text.specs.Encoder.{Encoder, encoder}
+use Rattle.smt_text.specs.Editions.{NameTable}
+use Rattle.smt_text.specs.Encoder.{Encoder, declared, encoder}
 use Rattle.smt_text.specs.Text.{sexp-list, write-binders, write-unary, write-binary, write-expr, write-pred, write-datatype-decl, write-const-decl, write-fun-def, write-kvar-decl}
 use Rattle.horn_text.specs.Clauses.{HornClause, clausesOf}
 
@@ -75,15 +76,19 @@ declarationParts enc t =
 unfoldable pub closing : List ℕ
 closing = line [] ++ line (bytes "(check-sat)")
 
+-- the encoder of a task, with a table of names
+abbrev pub encoderOf : NameTable → Task → Encoder
+encoderOf names t = encoder names (declared (t .datatypes))
+
 -- the parts: the opening, the declarations, the blank line, the assertions, the closing
-abbrev pub partsOf : Task → List (List ℕ)
-partsOf t =
-    opening (t .comments) ∷ (declarationParts (encoder (t .datatypes)) t
-    ++ line [] ∷ (write-asserts (encoder (t .datatypes)) (clausesOf t) ++ closing ∷ []))
+abbrev pub partsOf : NameTable → Task → List (List ℕ)
+partsOf names t =
+    opening (t .comments) ∷ (declarationParts (encoderOf names t) t
+    ++ line [] ∷ (write-asserts (encoderOf names t) (clausesOf t) ++ closing ∷ []))
 
 -- the script is its parts joined
-abbrev pub scriptOf : Task → List ℕ
-scriptOf t = join (partsOf t)
+abbrev pub scriptOf : NameTable → Task → List ℕ
+scriptOf names t = join (partsOf names t)
 
 -- the length of the longest of texts
 abbrev pub longest : List (List ℕ) → ℕ

@@ -11,15 +11,23 @@ use Rattle.task.specs.Ast.{Task}
 use Rattle.task.specs.Decode.{got}
 use Rattle.task.specs.Fault.{taskFault}
 use Rattle.task.specs.Task.{taskOf, declarations, headsOf}
-use Rattle.smt_text.specs.Encoder.{encoder}
+use Rattle.smt_text.specs.Editions.{NameTable, Valid}
+use Rattle.smt_text.specs.Encoder.{declared}
+use Rattle.smt_text.specs.Template.{setsInAll, Filled}
 use Rattle.horn_text.specs.Clauses.{clausesOf, placesOf, clausesAt}
-use Rattle.horn_text.specs.Script.{partsOf, scriptOf}
-use Rattle.horn_text.specs.Commands.{assertionsOf, commandsOf, assertionsAmong}
+use Rattle.horn_text.specs.Script.{partsOf, scriptOf, longest}
+use Rattle.horn_text.specs.Commands.{templatesOf, assertionsOf, commandsOf, assertionsAmong}
 use Rattle.horn_text.specs.Returns.{write-smt-horn-returns}
 
--- The script of a task without fault is read, at every cut, as the commands that the task calls for. (proofs/Readings.antt: script-read)
+-- With every valid table the script of a task without fault is read, at every cut, as the commands that the task calls for.
+-- (proofs/Readings.antt: script-read)
 abbrev pub ScriptRead : Type 0
-ScriptRead = (t : Task) → taskFault t ≡ Sound → ReadAtCuts (scriptOf t) (commandsOf t)
+ScriptRead = (names : NameTable) → Valid names → (t : Task) → taskFault t ≡ Sound → ReadAtCuts (scriptOf names t) (commandsOf names t)
+
+-- W-205: the scripts of a task without fault, one for each table, are one list of pieces filled in from the tables. The set functions in it are, one
+-- to one and in order, those of the templates that the commands are filled in from. (proofs/Readings.antt: script-filled)
+abbrev pub ScriptFilled : Type 0
+ScriptFilled = (t : Task) → taskFault t ≡ Sound → Filled (λ names. scriptOf names t) (setsInAll (templatesOf t))
 
 -- For a task without fault the source's writer returns. (proofs/Returned.antt: script-returns)
 abbrev pub ScriptReturns : Type 0
@@ -29,8 +37,8 @@ ScriptReturns = (t : Task) → taskFault t ≡ Sound → T (write-smt-horn-retur
 -- (proofs/Readings.antt: first-assertions)
 abbrev pub FirstAssertions : Type 0
 FirstAssertions =
-    (t : Task) (n : ℕ)
-    → assertionsAmong (take n (commandsOf t)) ≡ assertionsOf (encoder (t .datatypes)) (take (n - suc (declarations t)) (clausesOf t))
+    (names : NameTable) (t : Task) (n : ℕ)
+    → assertionsAmong (take n (commandsOf names t)) ≡ assertionsOf names (declared (t .datatypes)) (take (n - suc (declarations t)) (clausesOf t))
 
 -- The clauses belong one to one and in order to the heads that are not literally true, each with the ForAlls that hold it.
 -- (proofs/Places.antt: clauses-placed)
@@ -43,11 +51,11 @@ ClausesNumber = (t : Task) → length (clausesOf t) ≡ headsOf (t .constraint)
 
 -- As many assertions are called for. (proofs/Readings.antt: assertions-number)
 abbrev pub AssertionsNumber : Type 0
-AssertionsNumber = (t : Task) → length (assertionsAmong (commandsOf t)) ≡ headsOf (t .constraint)
+AssertionsNumber = (names : NameTable) (t : Task) → length (assertionsAmong (commandsOf names t)) ≡ headsOf (t .constraint)
 
 -- D declarations and A assertions make D + A + 3 parts. (proofs/Places.antt: parts-number)
 abbrev pub PartsNumber : Type 0
-PartsNumber = (t : Task) → length (partsOf t) ≡ declarations t + headsOf (t .constraint) + 3
+PartsNumber = (names : NameTable) (t : Task) → length (partsOf names t) ≡ declarations t + headsOf (t .constraint) + 3
 
 -- a text that ends in a line feed
 pub record Lined (w : List ℕ) : Type 0 where
@@ -56,13 +64,15 @@ pub record Lined (w : List ℕ) : Type 0 where
 
 -- Every part ends in a line feed. (proofs/Lines.antt: parts-lined)
 abbrev pub PartsLined : Type 0
-PartsLined = (t : Task) (i : ℕ) → i < length (partsOf t) → Lined (getD (partsOf t) i [])
+PartsLined = (names : NameTable) (t : Task) (i : ℕ) → i < length (partsOf names t) → Lined (getD (partsOf names t) i [])
 
 -- There are no more parts than bytes. (proofs/Lines.antt: parts-few)
 abbrev pub PartsFew : Type 0
-PartsFew = (t : Task) → length (partsOf t) ≤ length (scriptOf t)
+PartsFew = (names : NameTable) (t : Task) → length (partsOf names t) ≤ length (scriptOf names t)
 
--- The script of a file of bytes is shorter than 2^40 bytes. (proofs/Lengths.antt: script-short)
+-- With every valid table the script of a file of bytes is shorter than 2^40 bytes, and its longest part shorter than 2^32.
+-- (proofs/Lengths.antt: script-short)
 abbrev pub ScriptShort : Type 0
 ScriptShort =
-    (file : List ℕ) (t : Task) (end : ℕ) → ((i : ℕ) → getD file i 0 < 256) → taskOf file ≡ got t end → length (scriptOf t) < 2 ^ 40
+    (names : NameTable) → Valid names → (file : List ℕ) (t : Task) (end : ℕ) → ((i : ℕ) → getD file i 0 < 256) → taskOf file ≡ got t end
+    → (length (scriptOf names t) < 2 ^ 40) × (longest (partsOf names t) < 2 ^ 32)

@@ -2,6 +2,7 @@
 // `hornscript` writes. It reads at most 4,096 files of at most 65,535 bytes.
 use libc::STDOUT_FILENO;
 use smt_horn::Surveyed;
+use smt_text::Edition;
 use task::Number;
 ghost use Prim.Native.Nat.{_≤_};
 
@@ -59,7 +60,7 @@ fn print_file(number: u64, file: &[u8]) {
     io::write_all(STDOUT_FILENO, b"file ");
     io::print_decimal(STDOUT_FILENO, number);
     io::write_all(STDOUT_FILENO, b": ");
-    print_answer(smt_horn::survey(file));
+    print_answer(smt_horn::survey(file, Edition::Z3));
     console::print_script(file);
 }
 

@@ -9,6 +9,7 @@ use Rattle.smtlib.specs.Lexicon.{any}
 use Rattle.task.specs.Ast.{Task}
 use Rattle.task.specs.Decode.{got}
 use Rattle.task.specs.Task.{taskOf}
+use Rattle.smt_text.specs.Editions.{NameTable}
 use Rattle.horn_text.specs.Answers.{Answer, values, refused, surveyNumbers, surveyAnswer}
 use Rattle.horn_text.proofs.Demands.{demand1}
 use Rattle.smt_horn.specs.declared.Surveyed.{Surveyed}
@@ -51,21 +52,21 @@ listed-above zero h = absurd h
 listed-above (suc n) h = omega arith
 
 -- what survey refuses a call refuses alike, and what a call refuses by itself has another number than 0
-above : (file : List ℕ) (a : Answer) → ((m : ℕ) → surveyAnswer file ≡ refused m → a ≡ refused m)
+above : (names : NameTable) (file : List ℕ) (a : Answer) → ((m : ℕ) → surveyAnswer names file ≡ refused m → a ≡ refused m)
     → ((t : Task) (end : ℕ) → taskOf file ≡ got t end → (n : ℕ) → a ≡ refused n → 0 < n) → (n : ℕ) → a ≡ refused n → 0 < n
-above file a f g n e =
+above names file a f g n e =
     ⊎-elim
     (λ h. g (h .task) (h .end) (h .holds) n e)
-    (λ h. let z = f (h .number) (h .answers) in
+    (λ h. let z = f (h .number) (h .answers names) in
     let w : h .number ≡ n = cc in
-    listed-above n (demand1 .survey file n (h .answers ∙ ap refused w)))
+    listed-above n (demand1 .survey names file n (h .answers names ∙ ap refused w)))
     (demand1 .any-bytes file)
 
 pub all-told : AllTold
 all-told = record {
-  survey = λ file. told _ (λ n e. listed-above n (demand1 .survey file n e));
-  part = λ file i room. told _ (above file _ (λ m. demand1 .part file m i room)
-      (λ t end h n e. ⊎-elim (λ w. omega (arith, w .0)) (λ w. omega (arith, w .0)) (demand1 .part-refuses file t end h i room n .0 e)));
-  script = λ file room. told _ (above file _ (λ m. demand1 .script file m room)
-      (λ t end h n e. omega (arith, demand1 .script-refuses file t end h room n .0 e .0)));
+  survey = λ names file. told _ (λ n e. listed-above n (demand1 .survey names file n e));
+  part = λ names file i room. told _ (above names file _ (λ m. demand1 .part names names file m i room)
+      (λ t end h n e. ⊎-elim (λ w. omega (arith, w .0)) (λ w. omega (arith, w .0)) (demand1 .part-refuses names file t end h i room n .0 e)));
+  script = λ names file room. told _ (above names file _ (λ m. demand1 .script names names file m room)
+      (λ t end h n e. omega (arith, demand1 .script-refuses names file t end h room n .0 e .0)));
 }

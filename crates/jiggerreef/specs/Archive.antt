@@ -2,6 +2,7 @@
 use Prim.Native.Nat.{ℕ, _<_}
 use mathlib.Core.Path.{_≡_}
 use mathlib.Core.List.{List}
+use Rattle.smt_text.specs.Editions.{NameTable}
 use Rattle.horn_text.specs.Answers.{Answer, values, refused, surveyAnswer, partAnswer, scriptAnswer}
 
 -- 0 for a success, else the number of the refusal
@@ -21,8 +22,8 @@ pub record Told (a : Answer) : Type 0 where
   -- a number above 0 is that refusal
   pub refusal : (n : ℕ) → 0 < n → number a ≡ n → a ≡ refused n
 
--- so it is for every file, index and buffer
+-- so it is for every table of names, file, index and buffer
 pub record AllTold : Type 0 where
-  pub survey : (file : List ℕ) → Told (surveyAnswer file)
-  pub part : (file : List ℕ) (i room : ℕ) → Told (partAnswer file i room)
-  pub script : (file : List ℕ) (room : ℕ) → Told (scriptAnswer file room)
+  pub survey : (names : NameTable) (file : List ℕ) → Told (surveyAnswer names file)
+  pub part : (names : NameTable) (file : List ℕ) (i room : ℕ) → Told (partAnswer names file i room)
+  pub script : (names : NameTable) (file : List ℕ) (room : ℕ) → Told (scriptAnswer names file room)

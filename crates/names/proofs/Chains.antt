@@ -158,7 +158,7 @@ kept-entries s t u n (suc m) f h =
     ∙ sym (entries-suc s t m)
 
 -- the links below n are the same
-kept-nexts : (s t u : List ℕ) (n m k : ℕ) → Chains s t m → n ≤ m → Keeps t u n → k < n
+pub kept-nexts : (s t u : List ℕ) (n m k : ℕ) → Chains s t m → n ≤ m → Keeps t u n → k < n
     → nextOf u k ≡ link (lastOf (inBucket (hashOf (nameAt s (offsetOf u k)))) (firstEntries s u k))
 kept-nexts s t u n m k c l f h =
     f (1026 + 3 * k) (omega arith) (omega arith)
@@ -166,7 +166,7 @@ kept-nexts s t u n m k c l f h =
     ∙ ap (λ (o : ℕ). link (lastOf (inBucket (hashOf (nameAt s o))) (firstEntries s t k))) (sym (f (1026 + 3 * k + 1) (omega arith) (omega arith)))
     ∙ ap (λ (es : List Symbol). link (lastOf (inBucket (hashOf (nameAt s (offsetOf u k)))) es)) (sym (kept-entries s t u n k f (omega arith)))
 
-kept-names : (s t u : List ℕ) (n m k : ℕ) → Chains s t m → n ≤ m → Keeps t u n → k < n → Named s (offsetOf u k)
+pub kept-names : (s t u : List ℕ) (n m k : ℕ) → Chains s t m → n ≤ m → Keeps t u n → k < n → Named s (offsetOf u k)
 kept-names s t u n m k c l f h = subst⁻¹ (λ (o : ℕ). Named s o) (f (1026 + 3 * k + 1) (omega arith) (omega arith)) (c .names k (omega arith))
 
 -- a bucket's last entry, with the last entry of all or without it

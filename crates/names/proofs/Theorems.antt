@@ -2,21 +2,21 @@
 use mathlib.Core.Path.{_≡_, refl, sym, ap, _∙_}
 use mathlib.Core.Bool.{Bool, true, false, cond, _&&_, _||_}
 use mathlib.Core.List.{List, [], _∷_, _++_}
-use Prim.Native.Nat.{ℕ, suc, _+_, _-_, _≤_, _<_}
+use Prim.Native.Nat.{ℕ, suc, _+_, _-_, _*_, _≤_, _<_}
 use native.Mathlib.Omega.{arith}
 use lib.Dec.{leb}
-use lib.ListN.{length, take, replicate, length-append, length-replicate, getD-replicate}
-use lib.Seq.{take-at, take-all, take-take, length-take-le}
+use lib.ListN.{length, getD, take, set, replicate, length-append, length-set, length-replicate, getD-replicate}
+use lib.Seq.{getD-set-other, take-at, take-all, take-take, length-take-le}
 use borrow.Author.Tests.{le-leb, leb-true}
 use Rattle.smtlib.specs.Lexicon.{same, isOne}
 use Rattle.smtlib.proofs.Bools.{true-holds, is-true, and-left, and-right, same-self, same→eq}
 use Rattle.names.specs.declared.Found.{Found}
 use Rattle.names.specs.declared.Found.the-variants.{Entry, Nothing}
-use Rattle.names.specs.Table.{nameAt, hasName, countOf, Symbol, symbol, symbolOf, firstEntries, entries, orElse, lastFrom, inRange, fits, namesOf, inBucket, link, Chained, roomFor, add}
+use Rattle.names.specs.Table.{nameAt, hasName, countOf, Symbol, symbol, symbolOf, firstEntries, entries, orElse, lastFrom, lastOf, inRange, fits, namesOf, inBucket, link, Chained, roomFor, add}
 use Rattle.names.specs.Change.{Blank, Kept, Pushed, Popped, Restored}
 use Rattle.names.specs.Theorems.{Fits, Searches, Ranges, isFound, Members, Changes}
 use Rattle.names.proofs.Lasts.{last-is, last-entry, none-passes, none-above, nothing-last, entries-length, entries-zero, empty-last}
-use Rattle.names.proofs.Chains.{kept-all}
+use Rattle.names.proofs.Chains.{kept-all, kept-entries, kept-nexts, kept-names}
 
 -- SEARCHES
 
@@ -199,5 +199,40 @@ module _ (s t : List ℕ) (n : ℕ) where
   pub popping-end : (u : List ℕ) (left : ℕ) → (left ≤ n) × Popped s t (n - left) u → left ≤ 0 → Popped s t n u
   popping-end u left p h = let z : n - left ≡ n = omega arith in rw z at (p .1)
 
+-- another word for options
+module _ (s t : List ℕ) (word : ℕ) where
+  abbrev u : List ℕ
+  u = set t 0 word
+
+  behind : (i : ℕ) → 1 ≤ i → getD u i 0 ≡ getD t i 0
+  behind i h = getD-set-other t 0 i word 0 (λ e. omega arith)
+
+  keeps : (m i : ℕ) → 1026 ≤ i → i < 1026 + 3 * m → getD u i 0 ≡ getD t i 0
+  keeps m i g h = behind i (omega arith)
+
+  first-same : (m : ℕ) → firstEntries s u m ≡ firstEntries s t m
+  first-same m = kept-entries s t u m m (keeps m) (omega arith)
+
+  options-entries : entries s u ≡ entries s t
+  options-entries = ap (firstEntries s u) (behind 1 (omega arith)) ∙ first-same (countOf t)
+
+  options-chained : Chained s t → Chained s u
+  options-chained c =
+      let n = countOf t in
+      rw (behind 1 (omega arith))
+      (record {
+        room = rw (length-set t 0 word) (c .room);
+        names = λ k h. kept-names s t u n n k c (omega arith) (keeps n) h;
+        heads = λ h l. behind (2 + h) (omega arith) ∙ c .heads h l ∙ ap (λ (es : List Symbol). link (lastOf (inBucket h) es)) (sym (first-same n));
+        nexts = λ k h. kept-nexts s t u n n k c (omega arith) (keeps n) h;
+      })
+
 pub changes : Changes
-changes = record { zeros = zeros-blank; blank = blank-chained; none = blank-entries; push-pop = pushed-popped }
+changes = record {
+  zeros = zeros-blank;
+  blank = blank-chained;
+  none = blank-entries;
+  push-pop = pushed-popped;
+  options = options-chained;
+  options-entries = options-entries;
+}

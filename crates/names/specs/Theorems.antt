@@ -3,7 +3,7 @@ use mathlib.Core.Path.{_≡_}
 use mathlib.Core.Bool.{Bool, true, false}
 use mathlib.Core.List.{List, [], _∷_}
 use Prim.Native.Nat.{ℕ, _≤_, _<_}
-use lib.ListN.{length, replicate}
+use lib.ListN.{length, replicate, set}
 use Rattle.smtlib.specs.Lexicon.{isOne}
 use Rattle.names.specs.declared.Found.{Found}
 use Rattle.names.specs.declared.Found.the-variants.{Entry, Nothing}
@@ -47,10 +47,12 @@ abbrev pub Members : Type 0
 Members = (name : List ℕ) (lowest highest : ℕ) (es : List Symbol) → isFound (lastOf (fits name lowest highest) es) ≡ isOne name (namesOf lowest highest es)
 
 -- Zeros are a blank table. A blank table can be searched and has no entries. A push, what leaves the entries alone, and a pop leave the entries
--- alone. (changes)
+-- alone; so does a change of the options. (changes)
 pub record Changes : Type 0 where
   pub zeros : (n : ℕ) → 1026 ≤ n → Blank (replicate n 0)
   pub blank : (s t : List ℕ) → Blank t → Chained s t
   pub none : (s t : List ℕ) → Blank t → entries s t ≡ []
   pub push-pop : (s t : List ℕ) (offset kind : ℕ) (u v w : List ℕ) → hasName s offset ≡ true → roomFor (length t) (length (entries s t)) ≡ true → Pushed s t offset kind u
       → Restored s u v → Popped s v 1 w → Restored s t w
+  pub options : (s t : List ℕ) (word : ℕ) → Chained s t → Chained s (set t 0 word)
+  pub options-entries : (s t : List ℕ) (word : ℕ) → entries s (set t 0 word) ≡ entries s t

@@ -1,13 +1,17 @@
--- How the code lays out the names of the theory functions: one behind the other, in the order of the codes. Contracts of inner functions
--- cite this, and no claim about what is written rests on it.
+-- How the code lays out the names of the theory functions: one behind the other, in the order of the codes, with the names of Z3; behind them those
+-- that the set functions have in cvc5, in the same order. Contracts of inner functions cite this, and no claim about what is written rests on it.
 use Prim.Native.Nat.{ℕ, zero, suc, _+_}
 use Prim.Native.String.{String}
+use mathlib.Core.Bool.{cond, _&&_}
 use mathlib.Core.List.{List, [], _∷_, _++_}
+use lib.Dec.{leb, ltb}
 use lib.ListN.{length, getD}
 use Rattle.smtlib.specs.Lexicon.{bytes}
 use Rattle.smtlib.specs.Compose.{decimal}
 use Rattle.task.specs.declared.ThyFunc.{ThyFunc}
 use Rattle.task.specs.declared.ThyFunc.the-variants.{StrLen, StrConcat, StrPrefixOf, StrSuffixOf, StrContains, BvZeroExtend, BvSignExtend, IntToBv8, Bv8ToInt, IntToBv32, Bv32ToInt, IntToBv64, Bv64ToInt, IntToBv128, Bv128ToInt, BvUle, BvSle, BvUge, BvSge, BvUdiv, BvSdiv, BvSrem, BvUrem, BvLshr, BvAshr, BvAnd, BvOr, BvXor, BvNot, BvAdd, BvNeg, BvSub, BvMul, BvShl, BvUgt, BvSgt, BvUlt, BvSlt, SetEmpty, SetSng, SetCup, SetCap, SetDif, SetSub, SetMem, MapDefault, MapSelect, MapStore}
+use Rattle.smt_text.specs.declared.Edition.{Edition}
+use Rattle.smt_text.specs.declared.Edition.the-variants.{Z3, Cvc5}
 use Rattle.smt_text.specs.Text.{sexp-list}
 use Rattle.output.specs.declared.Entry.{Entry}
 use Rattle.output.specs.declared.Entry.the-variants as entry
@@ -19,6 +23,7 @@ names =
     "bvsrem" ∷ "bvurem" ∷ "bvlshr" ∷ "bvashr" ∷ "bvand" ∷ "bvor" ∷ "bvxor" ∷ "bvnot" ∷ "bvadd" ∷ "bvneg" ∷ "bvsub" ∷ "bvmul" ∷
     "bvshl" ∷ "bvugt" ∷ "bvsgt" ∷ "bvult" ∷ "bvslt" ∷ "emptyset" ∷ "singleton" ∷ "union" ∷ "intersection" ∷ "setminus" ∷ "subset" ∷
     "member" ∷ "const" ∷ "select" ∷ "store" ∷
+    "set.empty" ∷ "set.singleton" ∷ "set.union" ∷ "set.inter" ∷ "set.minus" ∷ "set.subset" ∷ "set.member" ∷
     []
 
 -- name i; none behind the last
@@ -49,10 +54,23 @@ placeOf i = before names i
 unfoldable pub lengthOf : ℕ → ℕ
 lengthOf i = length (nameAt i)
 
--- what an entry stands for: a name, or a name with an index
-abbrev pub entryText : Entry → List ℕ
-entryText (entry.Plain i) = nameAt i
-entryText (entry.Indexed i n) = sexp-list (bytes "_" ∷ nameAt i ∷ decimal n ∷ [])
+-- how far behind the names of Z3 those of an edition stand
+abbrev pub behindOf : Edition → ℕ
+behindOf Z3 = 0
+behindOf Cvc5 = 10
+
+-- where the name of number i stands in an edition: 38 to 44 are the set functions
+unfoldable pub inEdition : Edition → ℕ → ℕ
+inEdition e i = cond (leb 38 i && ltb i 45) (i + behindOf e) i
+
+-- a name with an index
+abbrev pub indexedText : ℕ → ℕ → List ℕ
+indexedText i n = sexp-list (bytes "_" ∷ nameAt i ∷ decimal n ∷ [])
+
+-- what an entry stands for in an edition
+abbrev pub entryText : Edition → Entry → List ℕ
+entryText e (entry.Plain i) = nameAt (inEdition e i)
+entryText e (entry.Indexed i n) = indexedText i n
 
 -- the entry of a theory function
 abbrev pub entryOf : ThyFunc → Entry

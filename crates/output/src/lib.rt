@@ -1,9 +1,10 @@
 // The output: a counter by value that sends bytes, decimals and names to a buffer, and the names of the theory functions.
+use smt_text::Edition;
 use task::Span;
 use task::ThyFunc;
 ghost use mathlib.Core.Path.{_≡_};
 ghost use mathlib.Core.List.{[], _∷_};
-ghost use Prim.Native.Nat.{_+_, _-_, _*_, _/_, _%_, _^_, _<_, min};
+ghost use Prim.Native.Nat.{_+_, _-_, _*_, _/_, _%_, _^_, _≤_, _<_, min};
 ghost use lib.Dec.{ltb};
 ghost use lib.ListN.{length, drop};
 ghost use lib.Seq.{sets};
@@ -11,10 +12,11 @@ ghost use Rattle.smtlib.specs.Lexicon.{any};
 ghost use Rattle.smtlib.specs.Read.{doubled as doubledOf};
 ghost use Rattle.smtlib.specs.Compose.{decimal as decimalOf};
 ghost use Rattle.task.specs.Node.{bytesOf};
+ghost use Rattle.smt_text.specs.Editions.{namesOf};
 ghost use Rattle.smt_text.specs.Text.{write-thy-func, write-name, write-string};
 ghost use Rattle.smt_text.specs.Table.{isQuote};
 ghost use Rattle.output.specs.Emit.{output, most, emit, emits};
-ghost use Rattle.output.specs.Names.{nameAt, placeOf, lengthOf, entryText, entryOf};
+ghost use Rattle.output.specs.Names.{nameAt, placeOf, lengthOf, behindOf, inEdition, indexedText, entryOf};
 
 // How many bytes were sent.
 pub struct Out {
@@ -34,19 +36,19 @@ struct Digits {
     start: usize,
 }
 
-// Where a theory function's name stands among the names, and its index if it has one.
+// Which of the names a theory function's is, with the names of Z3, and its index if it has one.
 pub enum Entry {
     Plain(usize),
     Indexed(usize, u64),
 }
 
-const NAMES: [u8; 309] =
+const NAMES: [u8; 378] =
     *b"str.lenstr.++str.prefixofstr.suffixofstr.containszero_extendsign_extendint2bvbv2intint2bvbv2intint2b\
     vbv2intint2bvbv2intbvulebvslebvugebvsgebvudivbvsdivbvsrembvurembvlshrbvashrbvandbvorbvxorbvnotbvaddb\
     vnegbvsubbvmulbvshlbvugtbvsgtbvultbvsltemptysetsingletonunionintersectionsetminussubsetmemberconstse\
-    lectstore";
+    lectstoreset.emptyset.singletonset.unionset.interset.minusset.subsetset.member";
 
-const PLACES: [u16; 48] = [
+const PLACES: [u16; 55] = [
     0,
     7,
     13,
@@ -95,9 +97,16 @@ const PLACES: [u16; 48] = [
     293,
     298,
     304,
+    309,
+    318,
+    331,
+    340,
+    349,
+    358,
+    368,
 ];
 
-const LENGTHS: [u16; 48] = [
+const LENGTHS: [u16; 55] = [
     7,
     6,
     12,
@@ -146,6 +155,13 @@ const LENGTHS: [u16; 48] = [
     5,
     6,
     5,
+    9,
+    13,
+    9,
+    9,
+    9,
+    10,
+    10,
 ];
 
 // The smaller of two numbers.
@@ -345,7 +361,7 @@ impl Out {
     fn listed(self, buf: &mut [u8], i: usize) -> Self
         ensures { λ r. ⌜ output (now (buf .exit)) (r .len) ≡ emits (output (now (buf .entry)) (self .len)) (nameAt i) ⌝ }
     {
-        if 48 <= i {
+        if 55 <= i {
             return self;
         }
         let start = place(i);
@@ -356,7 +372,7 @@ impl Out {
 
     // Sends a name with its index.
     fn indexed(self, buf: &mut [u8], i: usize, n: u64) -> Self
-        ensures { λ r. ⌜ output (now (buf .exit)) (r .len) ≡ emits (output (now (buf .entry)) (self .len)) (entryText (Entry.Indexed i n)) ⌝ }
+        ensures { λ r. ⌜ output (now (buf .exit)) (r .len) ≡ emits (output (now (buf .entry)) (self .len)) (indexedText i n) ⌝ }
     {
         let opened = self.bytes(buf, b"(_ ");
         let named = opened.listed(buf, i);
@@ -366,12 +382,12 @@ impl Out {
     }
 
     // Sends a theory function.
-    pub fn write_thy_func(self, buf: &mut [u8], func: ThyFunc) -> Self
-        ensures { λ r. ⌜ output (now (buf .exit)) (r .len) ≡ emits (output (now (buf .entry)) (self .len)) (write-thy-func func) ⌝ }
+    pub fn write_thy_func(self, buf: &mut [u8], edition: Edition, func: ThyFunc) -> Self
+        ensures { λ r. ⌜ output (now (buf .exit)) (r .len) ≡ emits (output (now (buf .entry)) (self .len)) (write-thy-func (namesOf edition) func) ⌝ }
     {
         let entry = entry_of(func);
         match entry {
-            Entry::Plain(i) => self.listed(buf, i),
+            Entry::Plain(i) => self.listed(buf, in_edition(edition, i)),
             Entry::Indexed(i, n) => self.indexed(buf, i, n),
         }
     }
@@ -384,17 +400,39 @@ fn wide(x: u16) -> usize
 }
 
 fn place(i: usize) -> usize
-    requires { ⌜ i < 48 ⌝ }
+    requires { ⌜ i < 55 ⌝ }
     ensures { λ r. ⌜ r ≡ placeOf i ⌝ }
 {
     wide(PLACES[i])
 }
 
 fn length_of(i: usize) -> usize
-    requires { ⌜ i < 48 ⌝ }
+    requires { ⌜ i < 55 ⌝ }
     ensures { λ r. ⌜ r ≡ lengthOf i ⌝ }
 {
     wide(LENGTHS[i])
+}
+
+// How far behind the names of Z3 those of an edition stand.
+fn behind(edition: Edition) -> usize
+    ensures { λ r. ⌜ (r ≡ behindOf edition) × (r ≤ 10) ⌝ }
+{
+    match edition {
+        Edition::Z3 => 0,
+        Edition::Cvc5 => 10,
+    }
+}
+
+// Where the name of number i stands in an edition: 38 to 44 are the set functions.
+fn in_edition(edition: Edition, i: usize) -> usize
+    ensures { λ r. ⌜ r ≡ inEdition edition i ⌝ }
+{
+    if 38 <= i {
+        if i < 45 {
+            return i + behind(edition);
+        }
+    }
+    i
 }
 
 // The entry of a theory function.

@@ -20,11 +20,11 @@ use Rattle.path.specs.Offsets.{entries as offsetsOn}
 use Rattle.path.proofs.Entries.{leaves-empty}
 use Rattle.names.specs.Table.{Chained, entries}
 use Rattle.declared.specs.Symbols.{symbolsOf}
-use Rattle.smt_text.specs.Encoder.{Encoder, encoder}
+use Rattle.smt_text.specs.Encoder.{Encoder}
 use Rattle.smt_text.specs.Text.{write-datatype-decl, write-const-decl, write-fun-def, write-kvar-decl}
 use Rattle.smt_sort.specs.Section.{encoderIn}
 use Rattle.horn_text.specs.Clauses.{clausesOf}
-use Rattle.horn_text.specs.Script.{write-asserts, opening, declarationParts, closing, partsOf}
+use Rattle.horn_text.specs.Script.{write-asserts, opening, declarationParts, closing, encoderOf, partsOf}
 use Rattle.task.proofs.Opened.{Opened, opened}
 use Rattle.assertion.specs.declared.Kept.{Kept}
 use Rattle.assertion.specs.Under.{onPath}
@@ -36,7 +36,7 @@ use Rattle.flatten.specs.Walk.{Ready}
 use Rattle.flatten.proofs.Lending.{puts-append}
 use Rattle.task.proofs.Sections.{in-whole, section-made}
 use Rattle.parts.proofs.Encoders.{encoder-is}
-use Rattle.parts.specs.Whole.{itemText, openingPart, each, PutsAll, sectionTexts, declarationTexts, constraintIn, assertionParts, fresh, PutsScript, Measured}
+use Rattle.parts.specs.Whole.{itemText, openingPart, each, PutsAll, sectionTexts, declarationTexts, constraintIn, assertionParts, fresh, namesIn, PutsScript, Measured}
 
 -- DECLARATIONS
 
@@ -90,13 +90,13 @@ assertions-put file enc b os r w w' q e u c p g =
 -- THE SCRIPT
 
 module _ (file enc : List ℕ) (t : Task) (o : Opened file t) (names : entries file enc ≡ symbolsOf t) where
-  is-encoder : encoderIn file enc ≡ encoder (t .datatypes)
+  is-encoder : encoderIn file enc ≡ encoderOf (namesIn enc) t
   is-encoder = encoder-is file enc t names
 
-  declared : declarationTexts file enc (boundsOf file) ≡ got (declarationParts (encoder (t .datatypes)) t) (o .kvars-end)
+  declared : declarationTexts file enc (boundsOf file) ≡ got (declarationParts (encoderOf (namesIn enc) t) t) (o .kvars-end)
   unfolding declarationTexts itemText
   declared =
-      let ts = encoder (t .datatypes) in
+      let ts = encoderOf (namesIn enc) t in
       rw (
         is-encoder,
         section-made datatype (write-datatype-decl ts) (take (bound file 2) file) (bound file 1) (t .datatypes) (o .datatypes-end) (o .datatypes),
@@ -105,17 +105,17 @@ module _ (file enc : List ℕ) (t : Task) (o : Opened file t) (names : entries f
         section-made kvar (write-kvar-decl ts) (take (bound file 5) file) (bound file 4) (t .kvars) (o .kvars-end) (o .kvars),
       )
 
-  asserted : assertionParts file enc (t .constraint) ≡ write-asserts (encoder (t .datatypes)) (clausesOf t)
+  asserted : assertionParts file enc (t .constraint) ≡ write-asserts (encoderOf (namesIn enc) t) (clausesOf t)
   unfolding assertionParts clauseParts
   asserted = ap (λ (ts : Encoder). write-asserts ts (clausesOf t)) is-encoder
 
   module _ (r : Range) (w0 w1 w2 w3 w4 w5 : Writing) where
     put-all : PutsAll openingPart r (section comment (take (bound file 1) file) (bound file 0)) w0 w1 → PutsAll each r (declarationTexts file enc (boundsOf file)) w1 w2
         → w3 ≡ put r w2 (bytes "\n") → PutsAll (assertionParts file enc) r (constraintIn file (boundsOf file)) w3 w4 → w5 ≡ put r w4 (bytes "\n(check-sat)\n")
-        → w5 ≡ puts r w0 (partsOf t)
+        → w5 ≡ puts r w0 (partsOf (namesIn enc) t)
     unfolding PutsAll closing puts
     put-all u1 u2 e3 u4 e5 =
-        let ts = encoder (t .datatypes) in
+        let ts = encoderOf (namesIn enc) t in
         let ds = declarationParts ts t in
         let cs = write-asserts ts (clausesOf t) in
         let e1 : w1 ≡ put r w0 (opening (t .comments)) = u1 (t .comments) (o .comments-end) (o .comments) in
@@ -132,7 +132,7 @@ unfolding PutsScript
 script-put file enc b r w0 w1 w2 w3 w4 w5 u1 u2 e3 u4 e5 t end e eb en =
     subst
     (λ (x : Bounds). PutsAll openingPart r (section comment (take (x .datatypes) file) (x .comments)) w0 w1 → PutsAll each r (declarationTexts file enc x) w1 w2
-    → PutsAll (assertionParts file enc) r (constraintIn file x) w3 w4 → w5 ≡ puts r w0 (partsOf t))
+    → PutsAll (assertionParts file enc) r (constraintIn file x) w3 w4 → w5 ≡ puts r w0 (partsOf (namesIn enc) t))
     (sym eb) (λ v1 v2 v4. put-all file enc t (opened file t end e) en r w0 w1 w2 w3 w4 w5 v1 v2 e3 v4 e5) u1 u2 u4
 
 -- at first nothing was written
@@ -149,5 +149,5 @@ script-from-start file enc b r p buf w1 w2 w3 w4 w5 e u1 u2 e3 u4 e5 =
 pub measured : (file enc : List ℕ) (b : Bounds) (r : Range) (p : Progress) (buf after : List ℕ) → buf ≡ [] → PutsScript file enc b r (fresh buf) (writing p after) → Measured file enc b r p
 unfolding PutsScript Measured
 measured file enc b r p buf after e0 u t end e eb en =
-    let v : writing p after ≡ puts r (fresh []) (partsOf t) = u t end e eb en ∙ ap (λ (x : List ℕ). puts r (fresh x) (partsOf t)) e0 in
+    let v : writing p after ≡ puts r (fresh []) (partsOf (namesIn enc) t) = u t end e eb en ∙ ap (λ (x : List ℕ). puts r (fresh x) (partsOf (namesIn enc) t)) e0 in
     (ap (λ (w : Writing). w .seen) v, ap (λ (w : Writing). w .len) v, ap (λ (w : Writing). w .longest) v)

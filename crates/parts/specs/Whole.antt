@@ -12,10 +12,11 @@ use Rattle.trailer.specs.declared.Bounds.{Bounds}
 use Rattle.trailer.specs.Bounds.{boundsOf, Inside, startOf, endOf}
 use Rattle.names.specs.Table.{entries}
 use Rattle.declared.specs.Symbols.{symbolsOf}
-use Rattle.smt_text.specs.Encoder.{Encoder, encoder}
+use Rattle.smt_text.specs.Editions.{NameTable, namesOf}
+use Rattle.smt_text.specs.Encoder.{Encoder}
 use Rattle.smt_text.specs.Text.{write-datatype-decl, write-const-decl, write-fun-def, write-kvar-decl}
-use Rattle.smt_sort.specs.Section.{encoderIn}
-use Rattle.horn_text.specs.Script.{join, write-comment, opening, partsOf}
+use Rattle.smt_sort.specs.Section.{editionIn, encoderIn}
+use Rattle.horn_text.specs.Script.{join, write-comment, opening, encoderOf, partsOf}
 use Rattle.flatten.specs.declared.Range.{Range}
 use Rattle.flatten.specs.declared.Progress.{Progress}
 use Rattle.flatten.specs.Parts.{Writing, puts, clauseParts}
@@ -77,20 +78,24 @@ assertionParts file enc c = clauseParts (encoderIn file enc) [] c
 abbrev pub fresh : List ℕ → Writing
 fresh buf = record { seen = 0; len = 0; longest = 0; buf = buf }
 
--- A table of the names that a task declares is the encoder of its datatypes. (proofs/Encoders.antt: encoder-is)
+-- the names that the set functions have in the edition of a table
+abbrev pub namesIn : List ℕ → NameTable
+namesIn enc = namesOf (editionIn enc)
+
+-- A table of the names that a task declares is the encoder of the task. (proofs/Encoders.antt: encoder-is)
 abbrev pub EncoderIs : Type 0
-EncoderIs = (file enc : List ℕ) (t : Task) → entries file enc ≡ symbolsOf t → encoderIn file enc ≡ encoder (t .datatypes)
+EncoderIs = (file enc : List ℕ) (t : Task) → entries file enc ≡ symbolsOf t → encoderIn file enc ≡ encoderOf (namesIn enc) t
 
 -- Where the file holds a task, b is where its sections are and the table has the names that it declares, the task's parts in the range were
 -- put.
 unfoldable pub PutsScript : List ℕ → List ℕ → Bounds → Range → Writing → Writing → Type 0
-PutsScript file enc b r w w' = (t : Task) (end : ℕ) → taskOf file ≡ got t end → b ≡ boundsOf file → entries file enc ≡ symbolsOf t → w' ≡ puts r w (partsOf t)
+PutsScript file enc b r w w' = (t : Task) (end : ℕ) → taskOf file ≡ got t end → b ≡ boundsOf file → entries file enc ≡ symbolsOf t → w' ≡ puts r w (partsOf (namesIn enc) t)
 
 -- what is counted of it: how many parts there are, how long those in the range are together and how long the longest
 unfoldable pub Measured : List ℕ → List ℕ → Bounds → Range → Progress → Type 0
 Measured file enc b r p =
     (t : Task) (end : ℕ) → taskOf file ≡ got t end → b ≡ boundsOf file → entries file enc ≡ symbolsOf t
-    → (p .seen ≡ puts r (fresh []) (partsOf t) .seen) × (p .len ≡ puts r (fresh []) (partsOf t) .len) × (p .longest ≡ puts r (fresh []) (partsOf t) .longest)
+    → (p .seen ≡ puts r (fresh []) (partsOf (namesIn enc) t) .seen) × (p .len ≡ puts r (fresh []) (partsOf (namesIn enc) t) .len) × (p .longest ≡ puts r (fresh []) (partsOf (namesIn enc) t) .longest)
 
 -- The file holds a task, and b is where its sections are.
 pub record Accepted (file : List ℕ) (b : Bounds) : Type 0 where

@@ -1,5 +1,5 @@
 // Replays recorded task files. Each argument is the name of one: NAME.task has its bytes, NAME.answer what the three calls have to answer
-// for it. Writes a line for each, `NAME: as recorded`, or `NAME: differs` and then what was answered.
+// for it in the edition of Z3 and then in that of cvc5. Writes a line for each, `NAME: as recorded`, or `NAME: differs` and then what was answered.
 //
 // An answer is `refused N`, or survey's four numbers with two checksums: of the parts joined, and of the places where they end. It is only
 // given if `part` and `script` agree with it: the script is the parts joined, a buffer one byte short is refused with 9, part P with 8, bytes
@@ -8,6 +8,7 @@ use libc::STDOUT_FILENO;
 use output::Out;
 use smt_horn::Surveyed;
 use smt_horn::Written;
+use smt_text::Edition;
 ghost use Prim.Native.Nat.{_<_};
 ghost use Rattle.io.specs.Counts.{Counts};
 
@@ -73,7 +74,8 @@ fn read_file(name: &[u8], ending: &[u8], buf: &mut [u8]) -> usize
 // Compares what is answered with what was recorded.
 fn print_outcome(file: &[u8], recorded: &[u8], buf: &mut [u8]) {
     let mut text = io::buffer();
-    let out = answer(file, buf, &mut text);
+    let first = answer(Out::new(), file, Edition::Z3, buf, &mut text);
+    let out = answer(first, file, Edition::Cvc5, buf, &mut text);
     let n = output::least(out.len, 4096);
     if smtlib::same_bytes(&text[..n], recorded) {
         io::write_all(STDOUT_FILENO, b": as recorded\n");
@@ -83,25 +85,32 @@ fn print_outcome(file: &[u8], recorded: &[u8], buf: &mut [u8]) {
     io::write_all(STDOUT_FILENO, &text[..n]);
 }
 
-// Sends the answer for a file.
-fn answer(file: &[u8], buf: &mut [u8], text: &mut [u8]) -> Out {
-    let surveyed = smt_horn::survey(file);
+// Sends the answer for a file in an edition.
+fn answer(out: Out, file: &[u8], edition: Edition, buf: &mut [u8], text: &mut [u8]) -> Out {
+    let surveyed = smt_horn::survey(file, edition);
     match surveyed {
         Surveyed::Sizes(parts, assertions, len, longest) => {
-            let joined = join_parts(file, parts, longest, buf);
-            let out = send_sizes(text, parts, assertions, len, longest);
-            send_joined(out, text, file, len, joined, buf)
+            let joined = join_parts(file, edition, parts, longest, buf);
+            let sent = send_sizes(out, text, parts, assertions, len, longest);
+            send_joined(sent, text, file, edition, len, joined, buf)
         }
-        Surveyed::Refused(n) => send_refused(text, file, n, buf),
+        Surveyed::Refused(n) => send_refused(out, text, file, edition, n, buf),
     }
 }
 
 // Sends what survey answers.
-fn send_sizes(text: &mut [u8], parts: usize, assertions: usize, len: usize, longest: usize) -> Out {
-    let out = counted(Out::new(), text, parts, b" parts, ");
-    let out1 = counted(out, text, assertions, b" assertions, ");
-    let out2 = counted(out1, text, len, b" bytes, longest ");
-    counted(out2, text, longest, b"\n")
+fn send_sizes(
+    out: Out,
+    text: &mut [u8],
+    parts: usize,
+    assertions: usize,
+    len: usize,
+    longest: usize,
+) -> Out {
+    let out1 = counted(out, text, parts, b" parts, ");
+    let out2 = counted(out1, text, assertions, b" assertions, ");
+    let out3 = counted(out2, text, len, b" bytes, longest ");
+    counted(out3, text, longest, b"\n")
 }
 
 fn counted(out: Out, text: &mut [u8], n: usize, what: &[u8]) -> Out {
@@ -114,6 +123,7 @@ fn send_joined(
     out: Out,
     text: &mut [u8],
     file: &[u8],
+    edition: Edition,
     len: usize,
     joined: Joined,
     buf: &mut [u8],
@@ -124,7 +134,7 @@ fn send_joined(
     if !joined.good {
         return out.bytes(text, b"a part differs\n");
     }
-    if !script_agrees(file, joined.len, joined.bytes, buf) {
+    if !script_agrees(file, edition, joined.len, joined.bytes, buf) {
         return out.bytes(text, b"the script differs\n");
     }
     let named = out.bytes(text, b"script ");
@@ -135,9 +145,15 @@ fn send_joined(
 }
 
 // Sends a refusal if all calls agree.
-fn send_refused(text: &mut [u8], file: &[u8], n: u8, buf: &mut [u8]) -> Out {
-    let out = Out::new();
-    if !all_refuse(file, n, buf) {
+fn send_refused(
+    out: Out,
+    text: &mut [u8],
+    file: &[u8],
+    edition: Edition,
+    n: u8,
+    buf: &mut [u8],
+) -> Out {
+    if !all_refuse(file, edition, n, buf) {
         return out.bytes(text, b"the calls refuse differently\n");
     }
     let named = out.bytes(text, b"refused ");
@@ -146,10 +162,10 @@ fn send_refused(text: &mut [u8], file: &[u8], n: u8, buf: &mut [u8]) -> Out {
 }
 
 // Whether `part` and `script` refuse a file with that number and leave the buffer as it was.
-fn all_refuse(file: &[u8], n: u8, buf: &mut [u8]) -> bool {
-    let first = is_refused(smt_horn::part(file, 0, buf), n);
-    let last = is_refused(smt_horn::part(file, 18446744073709551615, buf), n);
-    let whole = is_refused(smt_horn::script(file, buf), n);
+fn all_refuse(file: &[u8], edition: Edition, n: u8, buf: &mut [u8]) -> bool {
+    let first = is_refused(smt_horn::part(file, edition, 0, buf), n);
+    let last = is_refused(smt_horn::part(file, edition, 18446744073709551615, buf), n);
+    let whole = is_refused(smt_horn::script(file, edition, buf), n);
     first && last && whole && is_filled(buf, 0)
 }
 
@@ -197,30 +213,43 @@ fn fill_within(n: usize, buf: &mut [u8]) {
 }
 
 // All parts, one after another into the same buffer with 16 bytes behind the longest.
-fn join_parts(file: &[u8], parts: usize, longest: usize, buf: &mut [u8]) -> Joined {
+fn join_parts(
+    file: &[u8],
+    edition: Edition,
+    parts: usize,
+    longest: usize,
+    buf: &mut [u8],
+) -> Joined {
     let room = output::least(output::sum(longest, 16), buf.len());
     let mut joined = Joined {
         bytes: 1,
         ends: 1,
         len: 0,
-        good: is_refused(smt_horn::part(file, parts, buf), 8),
+        good: is_refused(smt_horn::part(file, edition, parts, buf), 8),
     };
     let mut i: usize = 0;
     while i < parts {
-        joined = join_part(file, i, parts <= 300, &mut buf[..room], joined);
+        joined = join_part(file, edition, i, parts <= 300, &mut buf[..room], joined);
         i += 1;
     }
     joined
 }
 
 // The next part; where `short` is said also with a buffer one byte short.
-fn join_part(file: &[u8], i: usize, short: bool, buf: &mut [u8], before: Joined) -> Joined
+fn join_part(
+    file: &[u8],
+    edition: Edition,
+    i: usize,
+    short: bool,
+    buf: &mut [u8],
+    before: Joined,
+) -> Joined
     requires { ⌜ (before .bytes < 36028797018963913) × (before .ends < 36028797018963913) ⌝ }
     ensures { λ r. ⌜ (r .bytes < 36028797018963913) × (r .ends < 36028797018963913) ⌝ }
 {
     let bytes = before.bytes;
     let ends = before.ends;
-    let written = smt_horn::part(file, i, buf);
+    let written = smt_horn::part(file, edition, i, buf);
     let Written::Length(n) = written else {
         return Joined {
             bytes,
@@ -233,7 +262,7 @@ fn join_part(file: &[u8], i: usize, short: bool, buf: &mut [u8], before: Joined)
     let hashed = checksum_within(bytes, n, buf);
     let unchanged = is_filled(buf, n);
     fill_within(n, buf);
-    let refused = refuses_short(file, i, short, n, buf);
+    let refused = refuses_short(file, edition, i, short, n, buf);
     Joined {
         bytes: hashed,
         ends: checksum_of_number(ends, end as u64),
@@ -243,44 +272,51 @@ fn join_part(file: &[u8], i: usize, short: bool, buf: &mut [u8], before: Joined)
 }
 
 // A part of n bytes in a buffer with room for one byte less.
-fn refuses_short(file: &[u8], i: usize, short: bool, n: usize, buf: &mut [u8]) -> bool {
+fn refuses_short(
+    file: &[u8],
+    edition: Edition,
+    i: usize,
+    short: bool,
+    n: usize,
+    buf: &mut [u8],
+) -> bool {
     if !short {
         return true;
     }
     if n == 0 {
         return false;
     }
-    let refused = is_refused(part_within(file, i, n - 1, buf), 9);
+    let refused = is_refused(part_within(file, edition, i, n - 1, buf), 9);
     refused && is_filled(buf, 0)
 }
 
 // `part` into the first n bytes of a buffer, or all if it has fewer.
-fn part_within(file: &[u8], i: usize, n: usize, buf: &mut [u8]) -> Written {
+fn part_within(file: &[u8], edition: Edition, i: usize, n: usize, buf: &mut [u8]) -> Written {
     let room = output::least(n, buf.len());
-    smt_horn::part(file, i, &mut buf[..room])
+    smt_horn::part(file, edition, i, &mut buf[..room])
 }
 
 // `script` into the first n bytes of a buffer, or all if it has fewer.
-fn script_within(file: &[u8], n: usize, buf: &mut [u8]) -> Written {
+fn script_within(file: &[u8], edition: Edition, n: usize, buf: &mut [u8]) -> Written {
     let room = output::least(n, buf.len());
-    smt_horn::script(file, &mut buf[..room])
+    smt_horn::script(file, edition, &mut buf[..room])
 }
 
 // Whether `script` writes a text of that length and checksum, if the buffer has room for it, and refuses with 9 otherwise.
-fn script_agrees(file: &[u8], len: usize, bytes: u64, buf: &mut [u8]) -> bool {
+fn script_agrees(file: &[u8], edition: Edition, len: usize, bytes: u64, buf: &mut [u8]) -> bool {
     if len == 0 {
         return false;
     }
-    let refused = is_refused(script_within(file, len - 1, buf), 9);
+    let refused = is_refused(script_within(file, edition, len - 1, buf), 9);
     if !is_filled(buf, 0) {
         return false;
     }
     if buf.len() < len {
         return refused;
     }
-    let exact = is_written(script_within(file, len, buf), len)
+    let exact = is_written(script_within(file, edition, len, buf), len)
         && checksum_within(1, len, buf) == bytes;
-    let fits = is_written(smt_horn::script(file, buf), len)
+    let fits = is_written(smt_horn::script(file, edition, buf), len)
         && checksum_within(1, len, buf) == bytes;
     let unchanged = is_filled(buf, len);
     fill_within(len, buf);

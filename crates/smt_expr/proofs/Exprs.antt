@@ -159,7 +159,7 @@ module _ (enc : Encoder) (s : List ℕ) (l from at : ℕ) (has : Bool) (o : Outp
       let i = bind-got (decSort l s from) (λ c v. got (some c) v) b u (rw e at eb) in
       let v = w h p eh in
       let v' = w' (i .value) (i .next) (i .first) in
-      let eq : isQualified enc h ≡ true = sym (k l h p eh) ∙ e' in
+      let eq : isQualified (enc .declares) h ≡ true = sym (k l h p eh) ∙ e' in
       let es : b ≡ some (i .value) = let z = i .then in cc in
       (v .0, rw (eq, es, e5, v' .1, e3, v .1, e1) (simp emits-append))
 
@@ -173,7 +173,7 @@ module _ (enc : Encoder) (s : List ℕ) (l from at : ℕ) (has : Bool) (o : Outp
   pub unqualified-sends : (t : Bool) (o' : Output) (q : ℕ) → TellsQualified enc s at t → t ≡ false → Sends (write-expr enc) (decExpr l s at) o o' q
       → HeadSends enc (given l has s from) (decExpr l s at) o o' q
   unfolding TellsQualified write-application-head
-  unqualified-sends t o' q k e w = plain-sends o' q (λ h b p u eh eb. let eq : isQualified enc h ≡ false = sym (k l h p eh) ∙ e in rw eq) w
+  unqualified-sends t o' q k e w = plain-sends o' q (λ h b p u eh eb. let eq : isQualified (enc .declares) h ≡ false = sym (k l h p eh) ∙ e in rw eq) w
 
   pub unsorted-sends : (o' : Output) (q : ℕ) → has ≡ false → Sends (write-expr enc) (decExpr l s at) o o' q
       → HeadSends enc (given l has s from) (decExpr l s at) o o' q
@@ -184,8 +184,8 @@ module _ (enc : Encoder) (s : List ℕ) (l from at : ℕ) (has : Bool) (o : Outp
       same true w = refl
       same false w = refl
 
-      bare : (h : Expr) (b : Option Sort) (u : ℕ) → got none from ≡ got b u → cond (isQualified enc h) (write-as enc (write-expr enc h) b) (write-expr enc h) ≡ write-expr enc h
-      bare h b u eb = let es : b ≡ none = cc in rw es (same (isQualified enc h) (write-expr enc h))
+      bare : (h : Expr) (b : Option Sort) (u : ℕ) → got none from ≡ got b u → cond (isQualified (enc .declares) h) (write-as enc (write-expr enc h) b) (write-expr enc h) ≡ write-expr enc h
+      bare h b u eb = let es : b ≡ none = cc in rw es (same (isQualified (enc .declares) h) (write-expr enc h))
 
 -- an application: what its parts come to
 module _ (enc : Encoder) (s : List ℕ) (l : ℕ) (has : Bool) (p : ℕ) (o : Output) (v : Walked) (ev : v ≡ walked givenFault (given l has s p)) where

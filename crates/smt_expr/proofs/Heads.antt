@@ -23,7 +23,7 @@ use Rattle.smt_expr.specs.Parts.{TellsQualified}
 
 -- whether an expression was decoded that is
 abbrev qualifiedIn : Encoder → Res Expr → Bool
-qualifiedIn enc (got h p) = isQualified enc h
+qualifiedIn enc (got h p) = isQualified (enc .declares) h
 qualifiedIn enc (refuse k) = false
 
 -- the places of the nodes but Var and ThyFunc
@@ -63,7 +63,7 @@ module _ (enc : Encoder) where
     unqualified expr-node.Refused k = refl
 
   -- what the node tells at every level is told of the expression
-  told : (s : List ℕ) (at : ℕ) (n : ExprNode) (t : Bool) → ExprAt s at n → ((l : ℕ) (h : Expr) (p : ℕ) → exprOf s l (decExpr l) n ≡ got h p → t ≡ isQualified enc h)
+  told : (s : List ℕ) (at : ℕ) (n : ExprNode) (t : Bool) → ExprAt s at n → ((l : ℕ) (h : Expr) (p : ℕ) → exprOf s l (decExpr l) n ≡ got h p → t ≡ isQualified (enc .declares) h)
       → TellsQualified enc s at t
   unfolding TellsQualified decExpr
   told s at n t e f zero h p g = got-refuse (sym g)

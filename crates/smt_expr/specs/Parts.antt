@@ -37,7 +37,7 @@ naryText enc op empty es = write-nary op (write-exprs enc es) empty
 
 -- Where an expression was decoded, the answer tells whether it is written with the output sort as an application's head.
 unfoldable pub TellsQualified : Encoder → List ℕ → ℕ → Bool → Type 0
-TellsQualified enc s at r = (l : ℕ) (h : Expr) (p : ℕ) → decExpr l s at ≡ got h p → r ≡ isQualified enc h
+TellsQualified enc s at r = (l : ℕ) (h : Expr) (p : ℕ) → decExpr l s at ≡ got h p → r ≡ isQualified (enc .declares) h
 
 -- Where the output sort was decoded, the head's text is sent by it.
 unfoldable pub HeadSends : Encoder → Res (Option Sort) → Res Expr → Output → Output → ℕ → Type 0

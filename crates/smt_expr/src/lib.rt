@@ -8,15 +8,17 @@ use task::ExprNode;
 use task::Number;
 use task::Quantifier;
 use task::Span;
+use task::ThyFunc;
 use task_check::Walked;
 ghost use mathlib.Core.Path.{_≡_};
 ghost use Rattle.task.specs.Ast.{Exprs};
 ghost use Rattle.task.specs.Decode.{many, given, decExpr};
 ghost use Rattle.task.specs.Node.{exprOf};
-ghost use Rattle.smt_text.specs.Text.{write-bin-op, write-expr};
-ghost use Rattle.output.specs.Emit.{output, emit, Sends};
+ghost use Rattle.smt_text.specs.Editions.{namesOf};
+ghost use Rattle.smt_text.specs.Text.{write-thy-func, write-bin-op, write-expr};
+ghost use Rattle.output.specs.Emit.{output, emit, emits, Sends};
 ghost use Rattle.names.specs.Table.{Chained};
-ghost use Rattle.smt_sort.specs.Section.{encoderIn};
+ghost use Rattle.smt_sort.specs.Section.{editionIn, encoderIn};
 ghost use Rattle.smt_expr.specs.Parts.{two, exprsText, unaryText, binaryText, atomText, naryText, TellsQualified, HeadSends};
 
 // Whether an expression is written with the output sort as an application's head: a declared constructor, SetEmpty or MapDefault.
@@ -30,6 +32,15 @@ fn is_qualified(s: &[u8], at: usize, enc: &[u16]) -> bool
         ExprNode::ThyFunc(f, _) => task_check::needs_sort(f),
         _ => false,
     }
+}
+
+// Sends a theory function.
+fn write_function(func: ThyFunc, p: usize, enc: &[u16], buf: &mut [u8], out: Out) -> Sent
+    ensures { λ r. ⌜ (r .at ≡ p) × (output (now (buf .exit)) (r .out .len) ≡ emits (output (now (buf .entry)) (out .len)) (write-thy-func (namesOf (editionIn (now (enc .entry)))) func)) ⌝ }
+{
+    let edition = smt_sort::edition_of(enc);
+    let sent = out.write_thy_func(buf, edition, func);
+    Sent { at: p, out: sent }
 }
 
 // Sends the expression at a position.
@@ -65,7 +76,7 @@ pub fn write_expr(s: &[u8], at: usize, levels: usize, enc: &[u16], buf: &mut [u8
         ExprNode::IfThenElse(p) => write_ite(s, p, below, enc, buf, out),
         ExprNode::Let(x, p) => write_let(s, x, p, below, enc, buf, out),
         ExprNode::App(has, p) => write_app(s, has, p, below, enc, buf, out),
-        ExprNode::ThyFunc(f, p) => smt_word::write_function(f, p, buf, out),
+        ExprNode::ThyFunc(f, p) => write_function(f, p, enc, buf, out),
         ExprNode::IsCtor(x, p) => write_is_ctor(s, x, p, below, enc, buf, out),
         ExprNode::Quantifier(q, n, p) => write_quantifier(s, q, n, p, below, enc, buf, out),
         ExprNode::Refused => Sent { at, out },

@@ -7,8 +7,8 @@ use native.Mathlib.Omega.{arith}
 use mir.Val.{Fits}
 use mir.Syntax.{w8}
 use lib.Dec.{leb, ltb}
-use lib.ListN.{length, getD, length-append}
-use lib.Seq.{sets}
+use lib.ListN.{length, getD, set, length-append}
+use lib.Seq.{sets, getD-set-same}
 use borrow.Author.Tests.{le-leb, lt-leb, lt-ltb, le-ltb}
 use mathlib.Core.Logic.{⊎-elim}
 use Rattle.smtlib.proofs.Bools.{clash}
@@ -21,6 +21,12 @@ use Rattle.trailer.specs.Bounds.{boundsOf, Inside}
 use Rattle.inspect.specs.declared.Inspected.{Inspected}
 use Rattle.inspect.specs.declared.Inspected.the-variants as inspected-is
 use Rattle.inspect.specs.Inspect.{inspectedOf, Names}
+use Rattle.smt_text.specs.declared.Edition.{Edition}
+use Rattle.smt_text.specs.Editions.{namesOf}
+use Rattle.smt_text.proofs.Texts.{tables}
+use Rattle.names.proofs.Theorems.{changes}
+use Rattle.smt_sort.specs.Section.{editionIn, numberOf}
+use Rattle.smt_sort.proofs.Editions.{numbered}
 use Rattle.horn_text.specs.Clauses.{clausesOf}
 use Rattle.horn_text.specs.Script.{join, partsOf, scriptOf, longest}
 use Rattle.horn_text.specs.Answers.{surveyAnswer, partAnswer, partBuffer, scriptAnswer, scriptBuffer}
@@ -83,22 +89,39 @@ accepted file v b d h e e' = go (taskOf file) refl
 
 -- with a table of the declared names the parts are measured, and written if there is room
 module _ (file table : List ℕ) (b : Bounds) (a : Accepted file b) (d : Names file table) (r : Range) (p : Progress) (m : Measured file table b r p) where
-  pub put-long : (buf : List ℕ) → length buf < p .len → PutsTask file r buf buf p
+  pub put-long : (buf : List ℕ) → length buf < p .len → PutsTask file (editionIn table) r buf buf p
   unfolding PutsTask Measured
   put-long buf h t end e =
       let x = m t end e (a .bounds) (d .are t end e) in
       record { seen = x .0; len = x .1; longest = x .2; fitting = λ l. absurd (omega arith); longer = λ l. refl }
 
-  pub put-done : (buf after : List ℕ) (q : Progress) → p .len ≤ length buf → PutsScript file table b r (fresh buf) (writing q after) → PutsTask file r buf after p
+  pub put-done : (buf after : List ℕ) (q : Progress) → p .len ≤ length buf → PutsScript file table b r (fresh buf) (writing q after) → PutsTask file (editionIn table) r buf after p
   unfolding PutsTask Measured PutsScript
   put-done buf after q h u t end e =
       let n = d .are t end e in
       let x = m t end e (a .bounds) n in
       record { seen = x .0; len = x .1; longest = x .2; fitting = λ l. ap (λ (w : Writing). w .buf) (u t end e (a .bounds) n); longer = λ l. absurd (omega arith) }
 
+-- the table with an edition in it
+module _ (file table : List ℕ) (d : Names file table) where
+  pub table-words : 0 < length table
+  table-words = let r = d .chained .room in omega arith
+
+  module _ (ed : Edition) (table' : List ℕ) (e : table' ≡ set table 0 (numberOf ed)) where
+    pub edition-names : Names file table'
+    edition-names =
+        rw e
+        (record {
+          chained = changes .options file table (numberOf ed) (d .chained);
+          are = λ t end h. changes .options-entries file table (numberOf ed) ∙ d .are t end h;
+        })
+
+    pub edition-is : editionIn table' ≡ ed
+    edition-is = numbered table' ed (rw e (getD-set-same table 0 (numberOf ed) 0 table-words))
+
 -- by what inspect found
-module _ (file : List ℕ) (r : Range) (v : Inspected) (e : v ≡ inspectedOf file (taskOf file)) where
-  pub put-refused : (n : ℕ) (buf : List ℕ) → v ≡ inspected-is.Refused n → Puts file r buf buf (outcome-is.Refused n)
+module _ (file : List ℕ) (ed : Edition) (r : Range) (v : Inspected) (e : v ≡ inspectedOf file (taskOf file)) where
+  pub put-refused : (n : ℕ) (buf : List ℕ) → v ≡ inspected-is.Refused n → Puts file ed r buf buf (outcome-is.Refused n)
   unfolding Puts
   put-refused n buf e' = go (taskOf file) refl
     where
@@ -111,16 +134,17 @@ module _ (file : List ℕ) (r : Range) (v : Inspected) (e : v ≡ inspectedOf fi
           let z : m ≡ n = cc in
           (u ∙ ap refuse z, refl)
 
-  pub put-given : (b : Bounds) (d h : ℕ) (buf after : List ℕ) (p : Progress) → v ≡ inspected-is.Task b d h → PutsTask file r buf after p → Puts file r buf after (outcome-is.Parts h p)
+  pub put-given : (b : Bounds) (d h : ℕ) (buf after : List ℕ) (p : Progress) (ed' : Edition) → v ≡ inspected-is.Task b d h → ed' ≡ ed → PutsTask file ed' r buf after p
+      → Puts file ed r buf after (outcome-is.Parts h p)
   unfolding Puts PutsTask
-  put-given b d h buf after p e' u =
+  put-given b d h buf after p ed' e' e'' u =
       let a = accepted file v b d h e e' in
       let y : inspected-is.Task b d h ≡ inspected-is.Task (boundsOf file) (declarations (a .task)) (headsOf (a .task .constraint)) = sym e' ∙ e ∙ ap (inspectedOf file) (a .held) in
-      record { task = a .task; end = a .end; held = a .held; heads = cc; put = u (a .task) (a .end) (a .held) }
+      record { task = a .task; end = a .end; held = a .held; heads = cc; put = rw (← e'') (u (a .task) (a .end) (a .held)) }
 
 -- the two cases of an outcome
-module _ (file : List ℕ) (r : Range) (buf after : List ℕ) (o : Outcome) (u : Puts file r buf after o) where
-  pub was-given : (h : ℕ) (p : Progress) → o ≡ outcome-is.Parts h p → Given file r buf after h p
+module _ (file : List ℕ) (ed : Edition) (r : Range) (buf after : List ℕ) (o : Outcome) (u : Puts file ed r buf after o) where
+  pub was-given : (h : ℕ) (p : Progress) → o ≡ outcome-is.Parts h p → Given file ed r buf after h p
   unfolding Puts
   was-given h p e = rw e at u
 
@@ -153,120 +177,120 @@ none-chosen : (r : Range) (k : ℕ) (ts : List (List ℕ)) → k + length ts ≤
 none-chosen r k [] h = refl
 none-chosen r k (t ∷ ts) h = rw (lt-leb (r .from) k (omega arith)) (none-chosen r (suc k) ts (omega arith))
 
-module _ (file : List ℕ) (by : Bytes file) (r : Range) (buf after : List ℕ) (h : ℕ) (p : Progress) (a : Given file r buf after h p) where
+module _ (file : List ℕ) (by : Bytes file) (ed : Edition) (r : Range) (buf after : List ℕ) (h : ℕ) (p : Progress) (a : Given file ed r buf after h p) where
   -- the script and the number of its parts are below the largest number
-  short : length (scriptOf (a .task)) ≤ most
-  short = let k = script-short file (a .task) (a .end) by (a .held) in omega arith
+  short : length (scriptOf (namesOf ed) (a .task)) ≤ most
+  short = let k = script-short (namesOf ed) (tables .editions ed) file (a .task) (a .end) by (a .held) .0 in omega arith
 
-  few : length (partsOf (a .task)) ≤ most
-  few = let n = parts-few (a .task) in let k = short in omega arith
+  few : length (partsOf (namesOf ed) (a .task)) ≤ most
+  few = let n = parts-few (namesOf ed) (a .task) in let k = short in omega arith
 
   -- what is put into a buffer: all of it, one part, or nothing
   all-put : (buf : List ℕ) → r .from ≡ 0 → r .to ≡ most
-      → puts r (fresh buf) (partsOf (a .task))
-      ≡ record { seen = length (partsOf (a .task)); len = length (scriptOf (a .task)); longest = longest (partsOf (a .task)); buf = sets buf 0 (scriptOf (a .task)) }
+      → puts r (fresh buf) (partsOf (namesOf ed) (a .task))
+      ≡ record { seen = length (partsOf (namesOf ed) (a .task)); len = length (scriptOf (namesOf ed) (a .task)); longest = longest (partsOf (namesOf ed) (a .task)); buf = sets buf 0 (scriptOf (namesOf ed) (a .task)) }
   all-put buf f t =
-      let c : chosen r 0 (partsOf (a .task)) ≡ partsOf (a .task) = chosen-all r (partsOf (a .task)) f (rw t few) in
-      totals r (partsOf (a .task)) buf few (rw c short) ∙ rw c
+      let c : chosen r 0 (partsOf (namesOf ed) (a .task)) ≡ partsOf (namesOf ed) (a .task) = chosen-all r (partsOf (namesOf ed) (a .task)) f (rw t few) in
+      totals r (partsOf (namesOf ed) (a .task)) buf few (rw c short) ∙ rw c
 
-  one-put : (i : ℕ) (buf : List ℕ) → r .from ≡ i → r .to ≡ up i 1 → i < length (partsOf (a .task))
-      → puts r (fresh buf) (partsOf (a .task))
-      ≡ record { seen = length (partsOf (a .task)); len = length (getD (partsOf (a .task)) i []); longest = max (length (getD (partsOf (a .task)) i [])) 0; buf = sets buf 0 (getD (partsOf (a .task)) i []) }
+  one-put : (i : ℕ) (buf : List ℕ) → r .from ≡ i → r .to ≡ up i 1 → i < length (partsOf (namesOf ed) (a .task))
+      → puts r (fresh buf) (partsOf (namesOf ed) (a .task))
+      ≡ record { seen = length (partsOf (namesOf ed) (a .task)); len = length (getD (partsOf (namesOf ed) (a .task)) i []); longest = max (length (getD (partsOf (namesOf ed) (a .task)) i [])) 0; buf = sets buf 0 (getD (partsOf (namesOf ed) (a .task)) i []) }
   one-put i buf f t l =
       let k = few in
-      let c : chosen r 0 (partsOf (a .task)) ≡ getD (partsOf (a .task)) i [] ∷ [] = chosen-one r (partsOf (a .task)) i f (t ∙ omega arith) l in
-      let j : join (chosen r 0 (partsOf (a .task))) ≡ getD (partsOf (a .task)) i [] = ap join c ∙ append-nil (getD (partsOf (a .task)) i []) in
-      totals r (partsOf (a .task)) buf few (rw j (part-short (partsOf (a .task)) i short)) ∙ rw (j, c)
+      let c : chosen r 0 (partsOf (namesOf ed) (a .task)) ≡ getD (partsOf (namesOf ed) (a .task)) i [] ∷ [] = chosen-one r (partsOf (namesOf ed) (a .task)) i f (t ∙ omega arith) l in
+      let j : join (chosen r 0 (partsOf (namesOf ed) (a .task))) ≡ getD (partsOf (namesOf ed) (a .task)) i [] = ap join c ∙ append-nil (getD (partsOf (namesOf ed) (a .task)) i []) in
+      totals r (partsOf (namesOf ed) (a .task)) buf few (rw j (part-short (partsOf (namesOf ed) (a .task)) i short)) ∙ rw (j, c)
 
-  none-put : (buf : List ℕ) → length (partsOf (a .task)) ≤ r .from → puts r (fresh buf) (partsOf (a .task)) .buf ≡ buf
+  none-put : (buf : List ℕ) → length (partsOf (namesOf ed) (a .task)) ≤ r .from → puts r (fresh buf) (partsOf (namesOf ed) (a .task)) .buf ≡ buf
   none-put buf l =
-      let c : chosen r 0 (partsOf (a .task)) ≡ [] = none-chosen r 0 (partsOf (a .task)) (omega arith) in
-      ap (λ (w : Writing). w .buf) (totals r (partsOf (a .task)) buf few (rw c (omega arith))) ∙ rw c
+      let c : chosen r 0 (partsOf (namesOf ed) (a .task)) ≡ [] = none-chosen r 0 (partsOf (namesOf ed) (a .task)) (omega arith) in
+      ap (λ (w : Writing). w .buf) (totals r (partsOf (namesOf ed) (a .task)) buf few (rw c (omega arith))) ∙ rw c
 
-  seen-is : p .seen ≡ length (partsOf (a .task))
-  seen-is = a .put .seen ∙ counted r (fresh []) (partsOf (a .task)) (let k = few in omega arith) ∙ omega arith
+  seen-is : p .seen ≡ length (partsOf (namesOf ed) (a .task))
+  seen-is = a .put .seen ∙ counted r (fresh []) (partsOf (namesOf ed) (a .task)) (let k = few in omega arith) ∙ omega arith
 
   -- what was put of all parts
   module _ (f : (r .from ≡ 0) × (r .to ≡ most)) where
-    len-is : p .len ≡ length (scriptOf (a .task))
+    len-is : p .len ≡ length (scriptOf (namesOf ed) (a .task))
     len-is = a .put .len ∙ ap (λ (w : Writing). w .len) (all-put [] (f .0) (f .1))
 
-    longest-is : p .longest ≡ longest (partsOf (a .task))
+    longest-is : p .longest ≡ longest (partsOf (namesOf ed) (a .task))
     longest-is = a .put .longest ∙ ap (λ (w : Writing). w .longest) (all-put [] (f .0) (f .1))
 
-    pub survey-found : surveyed (survey-is.Sizes (p .seen) h (p .len) (p .longest)) ≡ surveyAnswer file
+    pub survey-found : surveyed (survey-is.Sizes (p .seen) h (p .len) (p .longest)) ≡ surveyAnswer (namesOf ed) file
     unfolding surveyAnswer
     survey-found = let e : length (clausesOf (a .task)) ≡ h = clauses-number (a .task) ∙ a .heads in rw (a .held, seen-is, len-is, longest-is, ← e)
 
     -- a script that is longer than the buffer
-    pub script-long : length buf < p .len → (written (written-is.Refused 9) ≡ scriptAnswer file (length buf)) × (after ≡ scriptBuffer file buf)
+    pub script-long : length buf < p .len → (written (written-is.Refused 9) ≡ scriptAnswer (namesOf ed) file (length buf)) × (after ≡ scriptBuffer (namesOf ed) file buf)
     unfolding scriptAnswer scriptBuffer
     script-long g =
         let l = len-is in
-        let no : leb (length (scriptOf (a .task))) (length buf) ≡ false = lt-leb (length (scriptOf (a .task))) (length buf) (omega arith) in
+        let no : leb (length (scriptOf (namesOf ed) (a .task))) (length buf) ≡ false = lt-leb (length (scriptOf (namesOf ed) (a .task))) (length buf) (omega arith) in
         (rw (a .held, no), rw (a .held, no) (a .put .longer g))
 
     -- one that is not
-    pub script-done : p .len ≤ length buf → (written (written-is.Length (p .len)) ≡ scriptAnswer file (length buf)) × (after ≡ scriptBuffer file buf)
+    pub script-done : p .len ≤ length buf → (written (written-is.Length (p .len)) ≡ scriptAnswer (namesOf ed) file (length buf)) × (after ≡ scriptBuffer (namesOf ed) file buf)
     unfolding scriptAnswer scriptBuffer
     script-done g =
         let l = len-is in
-        let fits : leb (length (scriptOf (a .task))) (length buf) ≡ true = le-leb (length (scriptOf (a .task))) (length buf) (omega arith) in
+        let fits : leb (length (scriptOf (namesOf ed) (a .task))) (length buf) ≡ true = le-leb (length (scriptOf (namesOf ed) (a .task))) (length buf) (omega arith) in
         let w = a .put .fitting g ∙ ap (λ (x : Writing). x .buf) (all-put buf (f .0) (f .1)) in
-        (rw (a .held, fits, l), rw (a .held, fits) (w ∙ sets-laid (scriptOf (a .task)) buf (omega arith)))
+        (rw (a .held, fits, l), rw (a .held, fits) (w ∙ sets-laid (scriptOf (namesOf ed) (a .task)) buf (omega arith)))
 
   module _ (i : ℕ) (f : (r .from ≡ i) × (r .to ≡ up i 1)) where
     -- there is no such part
-    pub part-none : p .seen ≤ i → (written (written-is.Refused 8) ≡ partAnswer file i (length buf)) × (after ≡ partBuffer file i buf)
+    pub part-none : p .seen ≤ i → (written (written-is.Refused 8) ≡ partAnswer (namesOf ed) file i (length buf)) × (after ≡ partBuffer (namesOf ed) file i buf)
     unfolding partAnswer partBuffer
     part-none g =
         let n = seen-is in
         let w = ⊎-elim (λ (l : p .len ≤ length buf). a .put .fitting l ∙ none-put buf (omega (arith, f .0))) (λ (l : length buf < p .len). a .put .longer l) (le-or-lt (p .len) (length buf)) in
-        let no : ltb i (length (partsOf (a .task))) ≡ false = le-ltb i (length (partsOf (a .task))) (omega arith) in
+        let no : ltb i (length (partsOf (namesOf ed) (a .task))) ≡ false = le-ltb i (length (partsOf (namesOf ed) (a .task))) (omega arith) in
         (rw (a .held, no), rw (a .held, no) w)
 
     module _ (g : i < p .seen) where
-      there : i < length (partsOf (a .task))
+      there : i < length (partsOf (namesOf ed) (a .task))
       there = let n = seen-is in omega arith
 
-      part-len : p .len ≡ length (getD (partsOf (a .task)) i [])
+      part-len : p .len ≡ length (getD (partsOf (namesOf ed) (a .task)) i [])
       part-len = a .put .len ∙ ap (λ (w : Writing). w .len) (one-put i [] (f .0) (f .1) there)
 
-      found : ltb i (length (partsOf (a .task))) ≡ true
-      found = lt-ltb i (length (partsOf (a .task))) there
+      found : ltb i (length (partsOf (namesOf ed) (a .task))) ≡ true
+      found = lt-ltb i (length (partsOf (namesOf ed) (a .task))) there
 
       -- it is longer than the buffer
-      pub part-long : length buf < p .len → (written (written-is.Refused 9) ≡ partAnswer file i (length buf)) × (after ≡ partBuffer file i buf)
+      pub part-long : length buf < p .len → (written (written-is.Refused 9) ≡ partAnswer (namesOf ed) file i (length buf)) × (after ≡ partBuffer (namesOf ed) file i buf)
       unfolding partAnswer partBuffer
       part-long k =
           let l = part-len in
-          let no : leb (length (getD (partsOf (a .task)) i [])) (length buf) ≡ false = lt-leb (length (getD (partsOf (a .task)) i [])) (length buf) (omega arith) in
+          let no : leb (length (getD (partsOf (namesOf ed) (a .task)) i [])) (length buf) ≡ false = lt-leb (length (getD (partsOf (namesOf ed) (a .task)) i [])) (length buf) (omega arith) in
           (rw (a .held, found, no), rw (a .held, found, no) (a .put .longer k))
 
       -- it is not
-      pub part-done : p .len ≤ length buf → (written (written-is.Length (p .len)) ≡ partAnswer file i (length buf)) × (after ≡ partBuffer file i buf)
+      pub part-done : p .len ≤ length buf → (written (written-is.Length (p .len)) ≡ partAnswer (namesOf ed) file i (length buf)) × (after ≡ partBuffer (namesOf ed) file i buf)
       unfolding partAnswer partBuffer
       part-done k =
           let l = part-len in
-          let fits : leb (length (getD (partsOf (a .task)) i [])) (length buf) ≡ true = le-leb (length (getD (partsOf (a .task)) i [])) (length buf) (omega arith) in
+          let fits : leb (length (getD (partsOf (namesOf ed) (a .task)) i [])) (length buf) ≡ true = le-leb (length (getD (partsOf (namesOf ed) (a .task)) i [])) (length buf) (omega arith) in
           let w = a .put .fitting k ∙ ap (λ (x : Writing). x .buf) (one-put i buf (f .0) (f .1) there) in
-          (rw (a .held, found, fits, l), rw (a .held, found, fits) (w ∙ sets-laid (getD (partsOf (a .task)) i []) buf (omega arith)))
+          (rw (a .held, found, fits, l), rw (a .held, found, fits) (w ∙ sets-laid (getD (partsOf (namesOf ed) (a .task)) i []) buf (omega arith)))
 
 -- REFUSALS
 
-module _ (file buf after : List ℕ) (n : ℕ) (e : (taskOf file ≡ refuse n) × (after ≡ buf)) where
-  pub survey-refused : surveyed (survey-is.Refused n) ≡ surveyAnswer file
+module _ (ed : Edition) (file buf after : List ℕ) (n : ℕ) (e : (taskOf file ≡ refuse n) × (after ≡ buf)) where
+  pub survey-refused : surveyed (survey-is.Refused n) ≡ surveyAnswer (namesOf ed) file
   unfolding surveyAnswer
   survey-refused = rw (e .0)
 
-  pub part-refused : (i : ℕ) → (written (written-is.Refused n) ≡ partAnswer file i (length buf)) × (after ≡ partBuffer file i buf)
+  pub part-refused : (i : ℕ) → (written (written-is.Refused n) ≡ partAnswer (namesOf ed) file i (length buf)) × (after ≡ partBuffer (namesOf ed) file i buf)
   unfolding partAnswer partBuffer
   part-refused i = (rw (e .0), rw (e .0) (e .1))
 
-  pub script-refused : (written (written-is.Refused n) ≡ scriptAnswer file (length buf)) × (after ≡ scriptBuffer file buf)
+  pub script-refused : (written (written-is.Refused n) ≡ scriptAnswer (namesOf ed) file (length buf)) × (after ≡ scriptBuffer (namesOf ed) file buf)
   unfolding scriptAnswer scriptBuffer
   script-refused = (rw (e .0), rw (e .0) (e .1))
 
 -- demand 3 of the buffer that is left
-pub promised : (file buf after : List ℕ) → after ≡ scriptBuffer file buf → Promised file buf after
-promised file buf after e = rw e (demand3 file buf)
+pub promised : (ed : Edition) (file buf after : List ℕ) → after ≡ scriptBuffer (namesOf ed) file buf → Promised (namesOf ed) file buf after
+promised ed file buf after e = rw e (demand3 (namesOf ed) (tables .editions ed) file buf)

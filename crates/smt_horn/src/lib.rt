@@ -1,12 +1,16 @@
 // `survey`, `part` and `script`: what `smt_horn.rs` writes for a task file, or the number of a refusal. They answer for any bytes, and write
-// nothing before all that could refuse has been checked.
+// nothing before all that could refuse has been checked. The caller picks the edition with each call: with `Z3` the text is that of the source,
+// with `Cvc5` the set functions have the names of cvc5 in it.
 use flatten::Progress;
 use flatten::Range;
 use inspect::Inspected;
+use smt_text::Edition;
 use trailer::Bounds;
 ghost use mathlib.Core.Path.{_≡_};
 ghost use lib.ListN.{length};
 ghost use Rattle.inspect.specs.Inspect.{Room, Names};
+ghost use Rattle.smt_text.specs.Editions.{namesOf};
+ghost use Rattle.smt_sort.specs.Section.{editionIn};
 ghost use Rattle.horn_text.specs.Answers.{surveyAnswer, partAnswer, partBuffer, scriptAnswer, scriptBuffer};
 ghost use Rattle.horn_text.specs.Demand.{Promised};
 ghost use Rattle.flatten.specs.Parts.{up};
@@ -57,7 +61,7 @@ enum Outcome {
 // Measures the parts in a range of a task whose sections and names are known, and writes them if the buffer has room for them.
 fn put_task(file: &[u8], b: Bounds, enc: &[u16], range: Range, buf: &mut [u8]) -> Progress
     requires { ⌜ Accepted (now file) b × Names (now file) (now enc) ⌝ }
-    ensures { λ r. ⌜ PutsTask (now (file .entry)) range (now (buf .entry)) (now (buf .exit)) r ⌝ }
+    ensures { λ r. ⌜ PutsTask (now (file .entry)) (editionIn (now (enc .entry))) range (now (buf .entry)) (now (buf .exit)) r ⌝ }
 {
     let sizes = parts::measure(file, b, enc, range);
     if buf.len() < sizes.len {
@@ -68,39 +72,48 @@ fn put_task(file: &[u8], b: Bounds, enc: &[u16], range: Range, buf: &mut [u8]) -
 }
 
 // The same for any file. An empty table is lent for the names that the task declares.
-fn put_with(file: &[u8], range: Range, buf: &mut [u8], table: &mut [u16]) -> Outcome
+fn put_with(
+    file: &[u8],
+    edition: Edition,
+    range: Range,
+    buf: &mut [u8],
+    table: &mut [u16],
+) -> Outcome
     requires { ⌜ Room (now file) (now table) ⌝ }
-    ensures { λ r. ⌜ Puts (now (file .entry)) range (now (buf .entry)) (now (buf .exit)) r ⌝ }
+    ensures { λ r. ⌜ Puts (now (file .entry)) edition range (now (buf .entry)) (now (buf .exit)) r ⌝ }
 {
     let inspected = inspect::inspect(file, table);
     match inspected {
-        Inspected::Task(b, _, heads) => Outcome::Parts(heads, put_task(file, b, table, range, buf)),
+        Inspected::Task(b, _, heads) => {
+            smt_sort::set_edition(table, edition);
+            Outcome::Parts(heads, put_task(file, b, table, range, buf))
+        }
         Inspected::Refused(n) => Outcome::Refused(n),
     }
 }
 
 // The same with a table by the file's length: a short file does not wait for a long table to be cleared.
-fn put_parts(file: &[u8], range: Range, buf: &mut [u8]) -> Outcome
-    ensures { λ r. ⌜ Puts (now (file .entry)) range (now (buf .entry)) (now (buf .exit)) r ⌝ }
+fn put_parts(file: &[u8], edition: Edition, range: Range, buf: &mut [u8]) -> Outcome
+    ensures { λ r. ⌜ Puts (now (file .entry)) edition range (now (buf .entry)) (now (buf .exit)) r ⌝ }
 {
     if file.len() <= 1000 {
         let mut table = [0u16; 2026];
-        return put_with(file, range, buf, &mut table);
+        return put_with(file, edition, range, buf, &mut table);
     }
     if file.len() <= 8000 {
         let mut table = [0u16; 9026];
-        return put_with(file, range, buf, &mut table);
+        return put_with(file, edition, range, buf, &mut table);
     }
     let mut table = [0u16; 61026];
-    put_with(file, range, buf, &mut table)
+    put_with(file, edition, range, buf, &mut table)
 }
 
 // The numbers of parts and of assertions, the length of the script and that of its longest part; or the number of a refusal.
-pub fn survey(file: &[u8]) -> Surveyed
-    ensures { λ r. ⌜ surveyed r ≡ surveyAnswer (now (file .entry)) ⌝ }
+pub fn survey(file: &[u8], edition: Edition) -> Surveyed
+    ensures { λ r. ⌜ surveyed r ≡ surveyAnswer (namesOf edition) (now (file .entry)) ⌝ }
 {
     let mut none = [0u8; 0];
-    let put = put_parts(file, all_parts(), &mut none);
+    let put = put_parts(file, edition, all_parts(), &mut none);
     match put {
         Outcome::Parts(heads, all) => Surveyed::Sizes(
             all.seen,
@@ -113,11 +126,11 @@ pub fn survey(file: &[u8]) -> Surveyed
 }
 
 // Writes part i to the buffer's start; or survey's refusal, then 8 if there is no such part, then 9 if it is longer than the buffer.
-pub fn part(file: &[u8], i: usize, buf: &mut [u8]) -> Written
-    ensures { λ r. ⌜ (written r ≡ partAnswer (now (file .entry)) i (length (now (buf .entry)))) × (now (buf .exit) ≡ partBuffer (now (file .entry)) i (now (buf .entry))) ⌝ }
+pub fn part(file: &[u8], edition: Edition, i: usize, buf: &mut [u8]) -> Written
+    ensures { λ r. ⌜ (written r ≡ partAnswer (namesOf edition) (now (file .entry)) i (length (now (buf .entry)))) × (now (buf .exit) ≡ partBuffer (namesOf edition) (now (file .entry)) i (now (buf .entry))) ⌝ }
 {
     let room = buf.len();
-    let put = put_parts(file, one_part(i), buf);
+    let put = put_parts(file, edition, one_part(i), buf);
     match put {
         Outcome::Parts(_, one) => {
             if one.seen <= i {
@@ -134,12 +147,12 @@ pub fn part(file: &[u8], i: usize, buf: &mut [u8]) -> Written
 
 // Writes the script to the buffer's start; or survey's refusal, then 9 if it is longer than the buffer. What the buffer then holds carries
 // demand 3.
-pub fn script(file: &[u8], buf: &mut [u8]) -> Written
-    ensures { λ r. ⌜ (written r ≡ scriptAnswer (now (file .entry)) (length (now (buf .entry)))) × (now (buf .exit) ≡ scriptBuffer (now (file .entry)) (now (buf .entry))) ⌝ }
-    ensures { λ r. ⌜ Promised (now (file .entry)) (now (buf .entry)) (now (buf .exit)) ⌝ }
+pub fn script(file: &[u8], edition: Edition, buf: &mut [u8]) -> Written
+    ensures { λ r. ⌜ (written r ≡ scriptAnswer (namesOf edition) (now (file .entry)) (length (now (buf .entry)))) × (now (buf .exit) ≡ scriptBuffer (namesOf edition) (now (file .entry)) (now (buf .entry))) ⌝ }
+    ensures { λ r. ⌜ Promised (namesOf edition) (now (file .entry)) (now (buf .entry)) (now (buf .exit)) ⌝ }
 {
     let room = buf.len();
-    let put = put_parts(file, all_parts(), buf);
+    let put = put_parts(file, edition, all_parts(), buf);
     match put {
         Outcome::Parts(_, all) => {
             if room < all.len {

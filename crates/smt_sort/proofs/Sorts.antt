@@ -98,11 +98,11 @@ module _ (enc : Encoder) (s : List ℕ) (l p : ℕ) (o : Output) where
       sends-end (write-sort enc) o o5 r (Sort.func a b) r refl (rw (e5, v', e3, v, e1) (simp emits-append))))
 
   -- a sort that is made of others: its text by whether it is opaque, and what is sent if it is not
-  app-text : (c : SortCtor) (t : Bool) → isOpaque enc c ≡ t → (bs : Sorts) → write-sort enc (Sort.app c bs) ≡ cond t (bytes "Int") (appliedText enc c bs)
+  app-text : (c : SortCtor) (t : Bool) → isOpaque (enc .declares) c ≡ t → (bs : Sorts) → write-sort enc (Sort.app c bs) ≡ cond t (bytes "Int") (appliedText enc c bs)
   unfolding write-sort appliedText
   app-text c t h bs = ap (λ (u : Bool). cond u (bytes "Int") (applied (write-sort-ctor c) (write-sorts enc bs))) h
 
-  pub made-sends : (c : SortCtor) (node : SortNode) (n : ℕ) (o' : Output) (r : ℕ) → isOpaque enc c ≡ false
+  pub made-sends : (c : SortCtor) (node : SortNode) (n : ℕ) (o' : Output) (r : ℕ) → isOpaque (enc .declares) c ≡ false
       → sortOf s (decSort l) node ≡ bind (many Sorts.none Sorts.more (decSort l) n s p) (λ bs q. got (Sort.app c bs) q)
       → Sends (appliedText enc c) (many Sorts.none Sorts.more (decSort l) n s p) o o' r → Sends (write-sort enc) (sortOf s (decSort l) node) o o' r
   made-sends c node n o' r h e w =
@@ -112,7 +112,7 @@ module _ (enc : Encoder) (s : List ℕ) (l p : ℕ) (o : Output) where
 
 -- a datatype that is declared, and one that is not
 module _ (s enc : List ℕ) (l : ℕ) (x : Span) (n p : ℕ) (o : Output) (t : Bool) (e : t ≡ isOne (bytesOf s x) (declaredIn s enc Datatype)) where
-  opaque-is : isOpaque (encoderIn s enc) (SortCtor.named (bytesOf s x)) ≡ not t
+  opaque-is : isOpaque (encoderIn s enc .declares) (SortCtor.named (bytesOf s x)) ≡ not t
   unfolding encoderIn declaredIn
   opaque-is = ap not (sym e)
 

@@ -3,6 +3,7 @@
 use names::Found;
 use names::Kind;
 use output::Out;
+use smt_text::Edition;
 use smt_word::Sent;
 use task::SortNode;
 use task::Span;
@@ -10,6 +11,8 @@ use task::SpanRead;
 use task_check::Walked;
 ghost use mathlib.Core.Path.{_≡_};
 ghost use mathlib.Core.List.{[], _∷_};
+ghost use Prim.Native.Nat.{_<_};
+ghost use lib.ListN.{length, set};
 ghost use Rattle.smtlib.specs.Lexicon.{isOne};
 ghost use Rattle.task.specs.Ast.{Sorts};
 ghost use Rattle.task.specs.Decode.{many, binder, decSort};
@@ -17,13 +20,44 @@ ghost use Rattle.task.specs.Node.{bytesOf, sortOf};
 ghost use Rattle.names.specs.Table.{Chained};
 ghost use Rattle.smt_text.specs.Text.{write-sort-ctor, write-sort, write-binder};
 ghost use Rattle.output.specs.Emit.{output, emits, Sends};
-ghost use Rattle.smt_sort.specs.Section.{declaredIn, encoderIn, ctorOf, sortsText, sortList, appliedText, bindersText, binderList};
+ghost use Rattle.smt_sort.specs.Section.{declaredIn, editionIn, numberOf, encoderIn, ctorOf, sortsText, sortList, appliedText, bindersText, binderList};
 
 // What an applied sort is made by.
 pub enum SortCtor {
     Set,
     Map,
     Data(Span),
+}
+
+// The edition that the encoder is for.
+pub fn edition_of(enc: &[u16]) -> Edition
+    ensures { λ r. ⌜ r ≡ editionIn (now (enc .entry)) ⌝ }
+{
+    if enc.len() == 0 {
+        return Edition::Z3;
+    }
+    if enc[0] == 0 {
+        return Edition::Z3;
+    }
+    Edition::Cvc5
+}
+
+// The number of an edition.
+fn number_of(edition: Edition) -> u16
+    ensures { λ r. ⌜ r ≡ numberOf edition ⌝ }
+{
+    match edition {
+        Edition::Z3 => 0,
+        Edition::Cvc5 => 1,
+    }
+}
+
+// Makes the encoder one for the edition.
+pub fn set_edition(enc: &mut [u16], edition: Edition)
+    requires { ⌜ 0 < length (now enc) ⌝ }
+    ensures { λ r. ⌜ now (enc .exit) ≡ set (now (enc .entry)) 0 (numberOf edition) ⌝ }
+{
+    enc[0] = number_of(edition);
 }
 
 // Whether a name is that of a declared piece of the kind.

@@ -1,5 +1,6 @@
--- A piece's text is at most 16 times as long as what it is decoded from: `bounds`. Each byte read pays for 16 bytes of text; a sort or an
--- expression, in a row with others, is given 4 bytes more than its text, for what stands around it.
+-- A piece's text is at most 130 times as long as what it is decoded from: `bounds`. Each byte read pays for 130 bytes of text; a sort or an
+-- expression, in a row with others, is given 4 bytes more than its text, for what stands around it. A set function has two bytes, and a name of at
+-- most 255.
 use Prim.Native.Nat.{ℕ, zero, suc, _+_, _-_, _*_, _^_, _≤_, _<_, _/_}
 use mathlib.Core.Path.{_≡_, sym, subst}
 use mathlib.Core.Bool.{Bool, true, false, cond}
@@ -7,26 +8,28 @@ use mathlib.Core.List.{List, [], _∷_}
 use mathlib.Core.Option.{Option, none, some}
 use native.Mathlib.Nat.{pow-succ', lt-of-lt-of-le}
 use native.Mathlib.Omega.{arith}
-use lib.Dec.{T, leb, ltb, eqb, lit≤}
+use lib.Dec.{T, leb, ltb, eqb, lit≤, leb→le}
 use lib.ListN.{length, take, drop, getD, length-append, length-take}
 use lib.Seq.{getD-drop}
 use Rattle.smtlib.specs.Lexicon.{bytes}
 use Rattle.smtlib.specs.Read.{doubled}
 use Rattle.smtlib.specs.Compose.{digits, decimal}
+use Rattle.smtlib.proofs.Bools.{and-left, and-right}
 use Rattle.smtlib.proofs.Decimal.{decimal-digits}
 use Rattle.task.specs.declared.BinRel.{BinRel}
 use Rattle.task.specs.declared.BinRel.the-variants as rel
 use Rattle.task.specs.Ast.{SortCtor, Sort, Sorts, Binder, Expr, Exprs, DataCtor, DataDecl, FunBody, FunDef}
 use Rattle.task.specs.Decode.{got, Decoder, give, refusal, _▹_, raw, little, number, many, counted, coded, name, text, flag, sortForms, decSort, binder, binOps, binRels, quantifiers, thyFuncs, given, exprForms, decExpr, decPred, deepest, dataCtor, datatype, constant, body, function, kvar}
 use Rattle.task.proofs.Reading.{bind-got, got-refuse, raw-got, number-got}
+use Rattle.smt_text.specs.Editions.{SetFunction, Valid}
 use Rattle.smt_text.specs.Encoder.{Encoder, isOpaque, isQualified, zip}
 use Rattle.smt_text.specs.Theory.{thyFuncName}
 use Rattle.smt_text.specs.Text.{spaced, separated, applied, write-name, write-string, write-thy-func, write-sort-ctor, write-sort, write-sorts, write-binder, write-binders, write-boolean, write-nary, write-bin-op, write-atom, write-quantifier, write-as, write-application-head, write-expr, write-exprs, write-pred, write-ctor, write-ctors, write-parameters, write-datatype-body, write-datatype-decl, write-const-decl, write-fun-body, write-fun-def, write-kvar-decl}
 use Rattle.smt_text.specs.Theorems.{Bounded, Bounds, parameters}
 
--- 16 for each byte read, and c besides, pay for the size of what is decoded
+-- 130 for each byte read, and c besides, pay for the size of what is decoded
 pub record Costs {A : Type 0} (c : ℕ) (size : A → ℕ) (d : Decoder A) : Type 0 where
-  pub costs : (s : List ℕ) → ((i : ℕ) → getD s i 0 < 256) → (at : ℕ) (a : A) (p : ℕ) → d s at ≡ got a p → 16 * at + size a ≤ 16 * p + c
+  pub costs : (s : List ℕ) → ((i : ℕ) → getD s i 0 < 256) → (at : ℕ) (a : A) (p : ℕ) → d s at ≡ got a p → 130 * at + size a ≤ 130 * p + c
 
 module _ {A : Type 0} {c : ℕ} {size : A → ℕ} where
   pub refused : {n : ℕ} → Costs c size (refusal n)
@@ -37,7 +40,7 @@ module _ {A : Type 0} {c : ℕ} {size : A → ℕ} where
     costs = λ s b at a' p e.
         let l : a ≡ a' = cc in
         let z : at ≡ p = cc in
-        subst (λ (x : A). 16 * at + size x ≤ 16 * p + c) l (omega arith);
+        subst (λ (x : A). 130 * at + size x ≤ 130 * p + c) l (omega arith);
   }
 
   -- where the size is a known number
@@ -77,7 +80,7 @@ below [] h (suc n) = let z = below [] h n in rw (pow-succ' 256 n) (omega arith)
 below (b ∷ w) h (suc n) = let z = below w (λ i. h (suc i)) n in rw (pow-succ' 256 n) (omega (arith, h 0))
 
 -- a size that the bytes of any such number pay for
-numbers : {c : ℕ} {size : ℕ → ℕ} (k : ℕ) → ((n : ℕ) → n < 256 ^ k → size n ≤ 16 * k + c) → Costs c size (number k)
+numbers : {c : ℕ} {size : ℕ → ℕ} (k : ℕ) → ((n : ℕ) → n < 256 ^ k → size n ≤ 130 * k + c) → Costs c size (number k)
 numbers {c} {size} k h = record {
   costs = λ s b at n p e.
       let f = number-got k s at n p e in
@@ -100,19 +103,19 @@ decimal-length : (f n : ℕ) → n < 10 ^ suc f → length (decimal n) ≤ suc f
 decimal-length f n h = rw (decimal-digits f n h) (digits-length (suc f) n)
 
 -- numbers of k bytes that are written with at most f + 1 digits
-decimals : (k f : ℕ) → T (leb (256 ^ k) (10 ^ suc f)) → T (leb (suc f) (16 * k)) → Costs 0 (λ n. length (decimal n)) (number k)
-decimals k f h g = numbers k (λ n l. let z = decimal-length f n (lt-of-lt-of-le l (lit≤ h)) in let y : suc f ≤ 16 * k = lit≤ g in omega arith)
+decimals : (k f : ℕ) → T (leb (256 ^ k) (10 ^ suc f)) → T (leb (suc f) (130 * k)) → Costs 0 (λ n. length (decimal n)) (number k)
+decimals k f h g = numbers k (λ n l. let z = decimal-length f n (lt-of-lt-of-le l (lit≤ h)) in let y : suc f ≤ 130 * k = lit≤ g in omega arith)
 
 -- numbers that are not written
-any-number : (k : ℕ) → Costs 0 (λ n. 16 * k) (number k)
+any-number : (k : ℕ) → Costs 0 (λ n. 130 * k) (number k)
 any-number k = numbers k (λ n l. omega arith)
 
 -- NAMES, STRINGS, ROWS
 
-pub names : Costs 0 (λ x. 16 + 2 * length x) name
+pub names : Costs 0 (λ x. 130 + 2 * length x) name
 names = any-number 1 ⟫ λ n. either-way (eqb n 0) refused (raws n)
 
-pub texts : Costs 0 (λ t. 32 + 2 * length t) text
+pub texts : Costs 0 (λ t. 260 + 2 * length t) text
 texts = any-number 2 ⟫ λ n. raws n
 
 -- a byte of a string gives at most two
@@ -126,7 +129,7 @@ doubled-length (b ∷ t) =
 module _ {A B : Type 0} {size' : A → ℕ} {d : Decoder A} (size : B → ℕ) (end : B) (more : A → B → B) where
   -- a count and a row, to whose size each piece adds no more than its own
   pub rows : size end ≤ 0 → ((a : A) (b : B) → size (more a b) ≤ size' a + size b) → Costs 0 size' d
-      → Costs 0 (λ b. 32 + size b) (counted end more d)
+      → Costs 0 (λ b. 260 + size b) (counted end more d)
   rows h g f = any-number 2 ⟫ λ n. go n
     where
       go : {c : ℕ} (n : ℕ) → Costs c (λ b. c + size b) (many end more d n)
@@ -149,7 +152,7 @@ cost-at zero (CostAll.more f fs) = f
 cost-at (suc k) (CostAll.more f fs) = cost-at k fs
 
 -- the code's byte is there for each form
-pub codes : {A : Type 0} {size : A → ℕ} {ds : List (Decoder A)} → CostAll 16 size ds → Costs 0 size (coded ds)
+pub codes : {A : Type 0} {size : A → ℕ} {ds : List (Decoder A)} → CostAll 130 size ds → Costs 0 size (coded ds)
 codes fs = any-number 1 ⟫ λ k. cost-at k fs
 
 -- FIXED WORDS
@@ -168,18 +171,6 @@ bin-rels = codes (fixed tt ∣ fixed tt ∣ fixed tt ∣ fixed tt ∣ fixed tt �
 quantifiers-cost : Costs 0 (λ q. length (write-quantifier q)) (coded quantifiers)
 unfolding quantifiers
 quantifiers-cost = codes (fixed tt ∣ fixed tt ∣ end)
-
-thys : Costs 0 (λ f. length (write-thy-func f)) (coded thyFuncs)
-unfolding thyFuncs write-thy-func thyFuncName decimal
-thys =
-    codes (
-    fixed tt ∣ fixed tt ∣ fixed tt ∣ fixed tt ∣ fixed tt ∣
-    (decimals 1 2 tt tt ⟫ λ w. free (simp length-append (omega arith))) ∣
-    (decimals 1 2 tt tt ⟫ λ w. free (simp length-append (omega arith))) ∣
-    fixed tt ∣ fixed tt ∣ fixed tt ∣ fixed tt ∣ fixed tt ∣ fixed tt ∣ fixed tt ∣ fixed tt ∣ fixed tt ∣ fixed tt ∣ fixed tt ∣ fixed tt ∣
-    fixed tt ∣ fixed tt ∣ fixed tt ∣ fixed tt ∣ fixed tt ∣ fixed tt ∣ fixed tt ∣ fixed tt ∣ fixed tt ∣ fixed tt ∣ fixed tt ∣ fixed tt ∣
-    fixed tt ∣ fixed tt ∣ fixed tt ∣ fixed tt ∣ fixed tt ∣ fixed tt ∣ fixed tt ∣ fixed tt ∣ fixed tt ∣ fixed tt ∣ fixed tt ∣ fixed tt ∣
-    fixed tt ∣ fixed tt ∣ fixed tt ∣ fixed tt ∣ fixed tt ∣ end)
 
 -- LENGTHS OF ROWS
 
@@ -219,13 +210,13 @@ parameters-length i (suc n) h =
     simp length-append (omega arith)
 
 -- the number of parameters, with what the parameters take beside these; it is a number of two bytes
-vars-cost : Costs 0 (λ n. 16 + length (decimal n) + (length (separated (write-parameters 0 n)) - 7 * n) + 7 * (n - 65535)) (number 2)
+vars-cost : Costs 0 (λ n. 130 + length (decimal n) + (length (separated (write-parameters 0 n)) - 7 * n) + 7 * (n - 65535)) (number 2)
 vars-cost =
     numbers 2 (λ n h.
     let l : length (decimal n) ≤ 5 = decimal-length 4 n (omega arith) in
     omega (arith, separated-spaced (write-parameters 0 n), parameters-length 0 n (omega arith)))
 
-module _ (enc : Encoder) where
+module _ (enc : Encoder) (v : Valid (enc .names)) where
   -- SORTS
 
   abbrev wide-sort : Sort → ℕ
@@ -238,13 +229,13 @@ module _ (enc : Encoder) where
   unfolding write-sort
   app-length c bs =
       let h = applied-length (write-sort-ctor c) (write-sorts enc bs) in
-      cond-length (isOpaque enc c) _ (applied (write-sort-ctor c) (write-sorts enc bs)) _ (omega arith) (omega arith)
+      cond-length (isOpaque (enc .declares) c) _ (applied (write-sort-ctor c) (write-sorts enc bs)) _ (omega arith) (omega arith)
 
-  sort-rows : {d : Decoder Sort} → Costs 0 wide-sort d → Costs 0 (λ bs. 32 + wide-sorts bs) (counted Sorts.none Sorts.more d)
+  sort-rows : {d : Decoder Sort} → Costs 0 wide-sort d → Costs 0 (λ bs. 260 + wide-sorts bs) (counted Sorts.none Sorts.more d)
   unfolding write-sort
   sort-rows f = rows wide-sorts Sorts.none Sorts.more (omega arith) (λ a b. omega arith) f
 
-  sort-forms : {sort : Decoder Sort} → Costs 0 wide-sort sort → CostAll 16 wide-sort (sortForms sort)
+  sort-forms : {sort : Decoder Sort} → Costs 0 wide-sort sort → CostAll 130 wide-sort (sortForms sort)
   unfolding sortForms write-sort write-name
   sort-forms c =
       fixed tt ∣ fixed tt ∣ fixed tt ∣ fixed tt ∣
@@ -270,7 +261,7 @@ module _ (enc : Encoder) where
   unfolding write-binder write-name
   binders l = names ⟫ λ x. sorts l ⟫ λ b. free (simp length-append (omega arith))
 
-  binder-rows : (l : ℕ) → Costs 0 (λ bs. 32 + wide-binders bs) (counted [] _∷_ (binder l))
+  binder-rows : (l : ℕ) → Costs 0 (λ bs. 260 + wide-binders bs) (counted [] _∷_ (binder l))
   binder-rows l = rows wide-binders [] _∷_ (omega arith) (λ a b. omega arith) (binders l)
 
   -- EXPRESSIONS
@@ -289,7 +280,7 @@ module _ (enc : Encoder) where
 
   head-length : (h : Expr) (w : List ℕ) (o : Option Sort) → length (write-application-head enc h w o) ≤ 2 + length w + wide-given o
   unfolding write-application-head
-  head-length h w o = cond-length (isQualified enc h) (write-as enc w o) w _ (as-length w o) (omega arith)
+  head-length h w o = cond-length (isQualified (enc .declares) h) (write-as enc w o) w _ (as-length w o) (omega arith)
 
   abbrev wide-expr : Expr → ℕ
   wide-expr e = wide (write-expr enc e)
@@ -297,7 +288,7 @@ module _ (enc : Encoder) where
   abbrev wide-exprs : Exprs → ℕ
   wide-exprs es = wides (write-exprs enc es)
 
-  expr-rows : {d : Decoder Expr} → Costs 0 wide-expr d → Costs 0 (λ es. 32 + wide-exprs es) (counted Exprs.none Exprs.more d)
+  expr-rows : {d : Decoder Expr} → Costs 0 wide-expr d → Costs 0 (λ es. 260 + wide-exprs es) (counted Exprs.none Exprs.more d)
   unfolding write-expr
   expr-rows f = rows wide-exprs Exprs.none Exprs.more (omega arith) (λ a b. omega arith) f
 
@@ -309,7 +300,31 @@ module _ (enc : Encoder) where
   atom-length rel.Lt u v = simp length-append (omega arith)
   atom-length rel.Le u v = simp length-append (omega arith)
 
-  expr-forms : (l : ℕ) {expr : Decoder Expr} → Costs 0 wide-expr expr → CostAll 16 wide-expr (exprForms l expr)
+  -- THEORY FUNCTIONS
+
+  -- a name in a valid table has at most 255 bytes
+  set-length : (f : SetFunction) → wide (enc .names f) - 130 ≤ 130
+  set-length f =
+      let l = leb→le (length (enc .names f)) 255 (and-left (leb (length (enc .names f)) 255) _ (and-right (leb 1 (length (enc .names f))) _ (v f))) in
+      omega arith
+
+  -- a theory function: the expression's code pays for 130 bytes of it, its own code for the rest
+  thys : Costs 0 (λ f. wide (write-thy-func (enc .names) f) - 130) (coded thyFuncs)
+  unfolding thyFuncs write-thy-func thyFuncName decimal
+  thys =
+      codes (
+      fixed tt ∣ fixed tt ∣ fixed tt ∣ fixed tt ∣ fixed tt ∣
+      (decimals 1 2 tt tt ⟫ λ w. free (simp length-append (omega arith))) ∣
+      (decimals 1 2 tt tt ⟫ λ w. free (simp length-append (omega arith))) ∣
+      fixed tt ∣ fixed tt ∣ fixed tt ∣ fixed tt ∣ fixed tt ∣ fixed tt ∣ fixed tt ∣ fixed tt ∣ fixed tt ∣ fixed tt ∣ fixed tt ∣ fixed tt ∣
+      fixed tt ∣ fixed tt ∣ fixed tt ∣ fixed tt ∣ fixed tt ∣ fixed tt ∣ fixed tt ∣ fixed tt ∣ fixed tt ∣ fixed tt ∣ fixed tt ∣ fixed tt ∣
+      fixed tt ∣ fixed tt ∣ fixed tt ∣ fixed tt ∣ fixed tt ∣ fixed tt ∣ fixed tt ∣
+      free (set-length SetFunction.empty) ∣ free (set-length SetFunction.singleton) ∣ free (set-length SetFunction.union) ∣
+      free (set-length SetFunction.intersection) ∣ free (set-length SetFunction.difference) ∣ free (set-length SetFunction.subset) ∣
+      free (set-length SetFunction.member) ∣
+      fixed tt ∣ fixed tt ∣ fixed tt ∣ end)
+
+  expr-forms : (l : ℕ) {expr : Decoder Expr} → Costs 0 wide-expr expr → CostAll 130 wide-expr (exprForms l expr)
   unfolding exprForms write-expr write-name write-string
   expr-forms l c =
       (decimals 16 38 tt tt ⟫ λ n. free (omega arith)) ∣
@@ -359,7 +374,7 @@ module _ (enc : Encoder) where
   abbrev wide-ctors : List DataCtor → ℕ
   wide-ctors cs = wides (write-ctors enc cs)
 
-  ctor-rows : Costs 0 (λ cs. 32 + wide-ctors cs) (counted [] _∷_ dataCtor)
+  ctor-rows : Costs 0 (λ cs. 260 + wide-ctors cs) (counted [] _∷_ dataCtor)
   ctor-rows = rows wide-ctors [] _∷_ (omega arith) (λ a b. omega arith) ctors
 
   datatype-length : (d : DataDecl) → length (write-datatype-decl enc d)
@@ -418,13 +433,13 @@ within : {A : Type 0} {apart size : A → ℕ} {text : A → List ℕ} {d : Deco
     → ((a : A) → length (text a) ≤ size a + apart a) → Costs 0 size d → Bounded apart text d
 within h c = record { bounded = λ s b at a p e. omega (arith, h a, c .costs s b at a p e) }
 
-pub bounds : (enc : Encoder) → Bounds enc
-bounds enc = record {
-  sorts = λ l. within (λ a. omega arith) (sorts enc l);
-  exprs = λ l. within (λ a. omega arith) (exprs enc l);
-  preds = λ l. within (λ a. omega arith) (preds enc l);
-  datatypes = within (λ a. omega arith) (datatypes enc);
-  constants = within (λ a. omega arith) (constants enc);
-  functions = within (λ a. omega arith) (functions enc);
-  kvars = within (λ a. omega arith) (kvars enc);
+pub bounds : (enc : Encoder) → Valid (enc .names) → Bounds enc
+bounds enc v = record {
+  sorts = λ l. within (λ a. omega arith) (sorts enc v l);
+  exprs = λ l. within (λ a. omega arith) (exprs enc v l);
+  preds = λ l. within (λ a. omega arith) (preds enc v l);
+  datatypes = within (λ a. omega arith) (datatypes enc v);
+  constants = within (λ a. omega arith) (constants enc v);
+  functions = within (λ a. omega arith) (functions enc v);
+  kvars = within (λ a. omega arith) (kvars enc v);
 }

@@ -13,13 +13,15 @@ use Rattle.task.specs.declared.Quantifier.the-variants as quantifier
 use Rattle.task.specs.declared.ThyFunc.the-variants as thy
 use Rattle.task.specs.Ast.{SortCtor, Sort, Sorts, Constant, Expr, Exprs, Pred}
 use Rattle.task.specs.Fault.{needsSort}
-use Rattle.smt_text.specs.Encoder.{Encoder, encoder}
+use Rattle.smt_text.specs.declared.Edition.the-variants.{Z3}
+use Rattle.smt_text.specs.Editions.{namesOf}
+use Rattle.smt_text.specs.Encoder.{Encoder, declared, encoder}
 use Rattle.smt_text.specs.Theory.{thyFuncName}
 use Rattle.smt_text.specs.Text.{write-name, write-string, write-thy-func, write-sort, write-sorts, write-binder, write-application-head, write-expr, write-exprs, write-pred, write-ctor, write-datatype-decl, write-const-decl, write-fun-def, write-kvar-decl}
 
--- a datatype L with a constructor c
+-- a datatype L with a constructor c; the names are those of Z3
 abbrev enc : Encoder
-enc = encoder (record { name = bytes "L"; vars = 0; ctors = record { name = bytes "c"; fields = [] } ∷ [] } ∷ [])
+enc = encoder (namesOf Z3) (declared (record { name = bytes "L"; vars = 0; ctors = record { name = bytes "c"; fields = [] } ∷ [] } ∷ []))
 
 abbrev x : Expr
 x = Expr.var (bytes "x")
@@ -73,7 +75,7 @@ record Corners : Type 0 where
   kvar : write-kvar-decl enc (record { kvid = bytes "k0"; sorts = ints }) ≡ bytes "(declare-fun k0 (Int) Bool)\n"
 
 corners : Corners
-unfolding decimal thyFuncName needsSort write-name write-string write-thy-func write-sort write-sorts write-binder write-application-head write-expr write-exprs write-pred write-ctor write-datatype-decl write-const-decl write-fun-def write-kvar-decl
+unfolding decimal namesOf thyFuncName needsSort write-name write-string write-thy-func write-sort write-sorts write-binder write-application-head write-expr write-exprs write-pred write-ctor write-datatype-decl write-const-decl write-fun-def write-kvar-decl
 corners = record {
   empty-and = refl;
   empty-or = refl;

@@ -1,33 +1,74 @@
--- The texts of the theory functions and of strings: `thy-func-texts` and `string-texts`.
-use mathlib.Core.Path.{_≡_, refl, ap, _∙_}
+-- The texts of the theory functions and of strings, and the valid tables: `thy-func-texts`, `string-texts` and `tables`.
+use mathlib.Core.Path.{_≡_, refl, sym, ap, _∙_}
 use mathlib.Core.Bool.{Bool, true, false, cond, _||_}
-use mathlib.Core.List.{List, [], _∷_, _++_, append-nil, append-assoc, map}
-use Prim.Native.Nat.{ℕ}
-use Rattle.smtlib.specs.Lexicon.{bytes, any}
+use mathlib.Core.List.{List, [], _∷_, _++_, append-nil, append-assoc}
+use Prim.Native.Nat.{ℕ, zero, suc}
+use Rattle.smtlib.specs.Lexicon.{bytes, any, reservedWords}
 use Rattle.smtlib.specs.Read.{doubled}
 use Rattle.smtlib.specs.Compose.{quotes, decimal}
 use Rattle.smtlib.proofs.Bools.{clash}
 use Rattle.smtlib.proofs.Lexer.{doubled-append}
 use Rattle.task.specs.Decode.{raw, thyFuncs}
 use Rattle.task.specs.Fault.{needsSort}
+use Rattle.smt_text.specs.declared.Edition.{Edition}
+use Rattle.smt_text.specs.declared.Edition.the-variants.{Z3, Cvc5}
+use Rattle.smt_text.specs.Editions.{SetFunction, Valid, namesOf, editionOf}
+use Rattle.smt_text.specs.Encoder.{encoder}
 use Rattle.smt_text.specs.Theory.{thyFuncName}
 use Rattle.smt_text.specs.Text.{write-string, write-thy-func, write-sort, write-application-head, write-expr}
-use Rattle.smt_text.specs.Table.{sourceTexts, textsFrom, ThyFuncTexts, isQuote, StringTexts}
-
--- at 48 codes and one width
-computed : textsFrom 0 48 ≡ map bytes sourceTexts
-unfolding decimal raw thyFuncs thyFuncName write-thy-func
-computed = refl
+use Rattle.smt_text.specs.Table.{ThyFuncTexts, Tables, isQuote, StringTexts}
 
 pub thy-func-texts : ThyFuncTexts
-unfolding needsSort thyFuncName write-thy-func write-application-head write-expr
+unfolding decimal raw thyFuncs namesOf needsSort thyFuncName write-thy-func write-application-head write-expr
 thy-func-texts = record {
-  texts = computed;
-  zero-extend = λ w. rw (append-nil (decimal w));
-  sign-extend = λ w. rw (append-nil (decimal w));
-  set-empty = λ enc b. rw (append-nil (write-sort enc b));
+  texts = refl;
+  zero-extend = λ names w. rw (append-nil (decimal w));
+  sign-extend = λ names w. rw (append-nil (decimal w));
+  set-empty = λ env b. rw (append-nil (write-sort (encoder (namesOf Z3) env) b));
   map-default = λ enc b. rw (append-nil (write-sort enc b));
 }
+
+-- each of the seven
+editions-valid : (e : Edition) → Valid (namesOf e)
+unfolding namesOf reservedWords
+editions-valid Z3 SetFunction.empty = tt
+editions-valid Z3 SetFunction.singleton = tt
+editions-valid Z3 SetFunction.union = tt
+editions-valid Z3 SetFunction.intersection = tt
+editions-valid Z3 SetFunction.difference = tt
+editions-valid Z3 SetFunction.member = tt
+editions-valid Z3 SetFunction.subset = tt
+editions-valid Cvc5 SetFunction.empty = tt
+editions-valid Cvc5 SetFunction.singleton = tt
+editions-valid Cvc5 SetFunction.union = tt
+editions-valid Cvc5 SetFunction.intersection = tt
+editions-valid Cvc5 SetFunction.difference = tt
+editions-valid Cvc5 SetFunction.member = tt
+editions-valid Cvc5 SetFunction.subset = tt
+
+pub tables : Tables
+unfolding decimal raw thyFuncs namesOf thyFuncName write-thy-func reservedWords
+tables = record {
+  cvc5 = refl;
+  before = λ names names'. refl;
+  behind = λ names names'. refl;
+  editions = editions-valid;
+  shortest = λ f. tt;
+  longest = λ f. tt;
+  empty = λ v. v SetFunction.empty;
+  too-long = λ v. v SetFunction.empty;
+  reserved = λ v. v SetFunction.empty;
+  numeral = λ v. v SetFunction.empty;
+  blank = λ v. v SetFunction.empty;
+}
+
+-- the edition of a number
+pub zero-edition : (n : ℕ) → n ≡ 0 → Z3 ≡ editionOf n
+zero-edition n h = sym (ap editionOf h)
+
+pub other-edition : (n : ℕ) → (n ≡ 0 → ⊥) → Cvc5 ≡ editionOf n
+other-edition zero h = absurd (h refl)
+other-edition (suc n) h = refl
 
 -- without a quotation mark nothing is doubled
 pub unquoted : (t : List ℕ) → any isQuote t ≡ false → doubled t ≡ t

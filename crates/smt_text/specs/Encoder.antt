@@ -1,4 +1,4 @@
--- What decides how a piece is written: the declared names, and a function's arguments with their sorts.
+-- What decides how a piece is written: the declared names, the names of the set functions, and a function's arguments with their sorts.
 use Prim.Native.Nat.{ℕ}
 use mathlib.Core.Bool.{Bool, true, false, not}
 use mathlib.Core.List.{List, [], _∷_}
@@ -6,41 +6,51 @@ use Rattle.smtlib.specs.Lexicon.{isOne}
 use Rattle.task.specs.Ast.{SortCtor, Sorts, Binder, Expr, DataDecl}
 use Rattle.task.specs.Fault.{needsSort}
 use Rattle.task.specs.Scope.{declaredBy}
+use Rattle.smt_text.specs.Editions.{NameTable}
 
--- `SmtEncoder`: the names of the declared constructors and datatypes
-pub record Encoder : Type 0 where
+-- the names of the declared constructors and datatypes
+pub record Declared : Type 0 where
   pub constructors : List (List ℕ)
   pub datatypes : List (List ℕ)
 
--- `SmtEncoder::new`
-abbrev pub encoder : List DataDecl → Encoder
-encoder ds = record { constructors = declaredBy true ds; datatypes = declaredBy false ds }
+-- the names that datatypes declare
+abbrev pub declared : List DataDecl → Declared
+declared ds = record { constructors = declaredBy true ds; datatypes = declaredBy false ds }
+
+-- `SmtEncoder`: the declared names and, W-205, the names of the set functions in the place of its options
+pub record Encoder : Type 0 where
+  pub names : NameTable
+  pub declares : Declared
+
+-- `SmtEncoder::new`, for the declared names
+abbrev pub encoder : NameTable → Declared → Encoder
+encoder names env = record { names = names; declares = env }
 
 -- a datatype's name that is not declared
-abbrev pub isOpaque : Encoder → SortCtor → Bool
-isOpaque enc SortCtor.set = false
-isOpaque enc SortCtor.map = false
-isOpaque enc (SortCtor.named x) = not (isOne x (enc .datatypes))
+abbrev pub isOpaque : Declared → SortCtor → Bool
+isOpaque env SortCtor.set = false
+isOpaque env SortCtor.map = false
+isOpaque env (SortCtor.named x) = not (isOne x (env .datatypes))
 
 -- an application's head that is written with the output sort: a declared constructor, SetEmpty, MapDefault
-abbrev pub isQualified : Encoder → Expr → Bool
-isQualified enc (Expr.constant c) = false
-isQualified enc (Expr.var x) = isOne x (enc .constructors)
-isQualified enc (Expr.app h es o) = false
-isQualified enc (Expr.neg e) = false
-isQualified enc (Expr.binaryOp o a b) = false
-isQualified enc (Expr.ifThenElse c a b) = false
-isQualified enc (Expr.and es) = false
-isQualified enc (Expr.or es) = false
-isQualified enc (Expr.not e) = false
-isQualified enc (Expr.imp a b) = false
-isQualified enc (Expr.iff a b) = false
-isQualified enc (Expr.atom r a b) = false
-isQualified enc (Expr.letIn x a b) = false
-isQualified enc (Expr.thyFunc f) = needsSort f
-isQualified enc (Expr.isCtor x e) = false
-isQualified enc (Expr.quantifier q bs e) = false
-isQualified enc Expr.wkVar = false
+abbrev pub isQualified : Declared → Expr → Bool
+isQualified env (Expr.constant c) = false
+isQualified env (Expr.var x) = isOne x (env .constructors)
+isQualified env (Expr.app h es o) = false
+isQualified env (Expr.neg e) = false
+isQualified env (Expr.binaryOp o a b) = false
+isQualified env (Expr.ifThenElse c a b) = false
+isQualified env (Expr.and es) = false
+isQualified env (Expr.or es) = false
+isQualified env (Expr.not e) = false
+isQualified env (Expr.imp a b) = false
+isQualified env (Expr.iff a b) = false
+isQualified env (Expr.atom r a b) = false
+isQualified env (Expr.letIn x a b) = false
+isQualified env (Expr.thyFunc f) = needsSort f
+isQualified env (Expr.isCtor x e) = false
+isQualified env (Expr.quantifier q bs e) = false
+isQualified env Expr.wkVar = false
 
 -- each name with the sort at its place, as many as there are of both
 abbrev pub zip : List (List ℕ) → Sorts → List Binder

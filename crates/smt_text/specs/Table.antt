@@ -8,14 +8,17 @@ use mathlib.Core.Bool.{Bool, false}
 use mathlib.Core.List.{List, [], _∷_, _++_, map}
 use mathlib.Core.Option.{some}
 use lib.Dec.{eqb}
-use lib.ListN.{drop}
+use lib.ListN.{drop, replicate}
 use Rattle.smtlib.specs.Lexicon.{bytes, any}
 use Rattle.smtlib.specs.Compose.{quotes, decimal}
 use Rattle.task.specs.declared.ThyFunc.{ThyFunc}
 use Rattle.task.specs.declared.ThyFunc.the-variants.{BvZeroExtend, BvSignExtend, SetEmpty, MapDefault}
 use Rattle.task.specs.Ast.{Sort, Expr, Exprs}
 use Rattle.task.specs.Decode.{Res, got, refuse, coded, thyFuncs}
-use Rattle.smt_text.specs.Encoder.{Encoder}
+use Rattle.smt_text.specs.declared.Edition.{Edition}
+use Rattle.smt_text.specs.declared.Edition.the-variants.{Z3, Cvc5}
+use Rattle.smt_text.specs.Editions.{NameTable, Valid, namesOf}
+use Rattle.smt_text.specs.Encoder.{Declared, Encoder, encoder}
 use Rattle.smt_text.specs.Text.{write-string, write-thy-func, write-sort, write-expr}
 
 -- In the order of declaration, which is that of the codes 0 to 47. The two extend functions stand here with the width 24, and SetEmpty and
@@ -35,29 +38,50 @@ sourceTexts =
     []
 
 -- the text of a function that was decoded
-abbrev pub textOf : Res ThyFunc → List ℕ
-textOf (got f end) = write-thy-func f
-textOf (refuse n) = []
+abbrev pub textOf : NameTable → Res ThyFunc → List ℕ
+textOf names (got f end) = write-thy-func names f
+textOf names (refuse n) = []
 
 -- the texts of n codes from c on, each with the byte 24 behind it
-abbrev pub textsFrom : ℕ → ℕ → List (List ℕ)
-textsFrom c zero = []
-textsFrom c (suc n) = textOf (coded thyFuncs (c ∷ 24 ∷ []) 0) ∷ textsFrom (suc c) n
+abbrev pub textsFrom : NameTable → ℕ → ℕ → List (List ℕ)
+textsFrom names c zero = []
+textsFrom names c (suc n) = textOf names (coded thyFuncs (c ∷ 24 ∷ []) 0) ∷ textsFrom names (suc c) n
 
 -- the application of a theory function to nothing, with an output sort
 abbrev pub qualified : ThyFunc → Sort → Expr
 qualified f b = Expr.app (Expr.thyFunc f) Exprs.none (some b)
 
--- What is written for the theory functions is what the source writes. (proofs/Texts.antt: thy-func-texts)
+-- With the table of Z3 what is written for the theory functions is what the source writes. (proofs/Texts.antt: thy-func-texts)
 pub record ThyFuncTexts : Type 0 where
   -- each code's
-  pub texts : textsFrom 0 48 ≡ map bytes sourceTexts
+  pub texts : textsFrom (namesOf Z3) 0 48 ≡ map bytes sourceTexts
   -- the extend functions, for every width
-  pub zero-extend : (w : ℕ) → write-thy-func (BvZeroExtend w) ≡ bytes "(_ zero_extend " ++ (decimal w ++ bytes ")")
-  pub sign-extend : (w : ℕ) → write-thy-func (BvSignExtend w) ≡ bytes "(_ sign_extend " ++ (decimal w ++ bytes ")")
+  pub zero-extend : (names : NameTable) (w : ℕ) → write-thy-func names (BvZeroExtend w) ≡ bytes "(_ zero_extend " ++ (decimal w ++ bytes ")")
+  pub sign-extend : (names : NameTable) (w : ℕ) → write-thy-func names (BvSignExtend w) ≡ bytes "(_ sign_extend " ++ (decimal w ++ bytes ")")
   -- SetEmpty and MapDefault as heads, for every output sort
-  pub set-empty : (enc : Encoder) (b : Sort) → write-expr enc (qualified SetEmpty b) ≡ bytes "(as emptyset " ++ (write-sort enc b ++ bytes ")")
+  pub set-empty : (env : Declared) (b : Sort)
+      → write-expr (encoder (namesOf Z3) env) (qualified SetEmpty b) ≡ bytes "(as emptyset " ++ (write-sort (encoder (namesOf Z3) env) b ++ bytes ")")
   pub map-default : (enc : Encoder) (b : Sort) → write-expr enc (qualified MapDefault b) ≡ bytes "(as const " ++ (write-sort enc b ++ bytes ")")
+
+-- W-205. The seven texts of cvc5 by their codes; and which tables are valid: the names of the seven may have 1 to 255 bytes, and none may be reserved.
+-- (proofs/Texts.antt: tables)
+pub record Tables : Type 0 where
+  pub cvc5 : textsFrom (namesOf Cvc5) 38 7
+      ≡ map bytes ("set.empty" ∷ "set.singleton" ∷ "set.union" ∷ "set.inter" ∷ "set.minus" ∷ "set.subset" ∷ "set.member" ∷ [])
+  -- no table changes the others: the codes before the seven and behind them
+  pub before : (names names' : NameTable) → textsFrom names 0 38 ≡ textsFrom names' 0 38
+  pub behind : (names names' : NameTable) → textsFrom names 45 3 ≡ textsFrom names' 45 3
+  -- the tables of both editions are valid
+  pub editions : (e : Edition) → Valid (namesOf e)
+  -- 1 and 255 bytes; no byte and 256
+  pub shortest : Valid (λ f. bytes "a")
+  pub longest : Valid (λ f. replicate 255 (code "a"))
+  pub empty : Valid (λ f. []) → ⊥
+  pub too-long : Valid (λ f. replicate 256 (code "a")) → ⊥
+  -- a reserved word, a numeral, a space
+  pub reserved : Valid (λ f. bytes "as") → ⊥
+  pub numeral : Valid (λ f. bytes "1") → ⊥
+  pub blank : Valid (λ f. bytes "a b") → ⊥
 
 -- a quotation mark
 abbrev pub isQuote : ℕ → Bool

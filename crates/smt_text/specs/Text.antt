@@ -1,6 +1,6 @@
 -- What is written: `smt_fmt.rs` with `SmtOptions::HORN`, function by function under the source's names with `-` for `_`, and
--- `write_kvar_decl` of `smt_horn.rs`; strings alone depart from it (`write-string`). Where the source panics no task is accepted; a definition gives
--- a text there too, since it gives one for every tree.
+-- `write_kvar_decl` of `smt_horn.rs`. Strings depart from it (`write-string`), and so do the set functions in every table of names but that of
+-- Z3 (`write-identifier`). Where the source panics no task is accepted; a definition gives a text there too, since it gives one for every tree.
 use Prim.Native.Nat.{ℕ, zero, suc}
 use Prim.Native.Char.{code}
 use mathlib.Core.Bool.{Bool, true, false, cond}
@@ -18,6 +18,7 @@ use Rattle.task.specs.declared.Quantifier.{Quantifier}
 use Rattle.task.specs.declared.Quantifier.the-variants as quantifier
 use Rattle.task.specs.declared.ThyFunc.{ThyFunc}
 use Rattle.task.specs.Ast.{SortCtor, Sort, Sorts, Binder, Constant, Expr, Exprs, Pred, DataCtor, DataDecl, FunBody, FunDef, KVarDecl}
+use Rattle.smt_text.specs.Editions.{NameTable}
 use Rattle.smt_text.specs.Encoder.{Encoder, isOpaque, isQualified, zip}
 use Rattle.smt_text.specs.Theory.{Identifier, thyFuncName}
 
@@ -48,14 +49,15 @@ write-name x = x
 unfoldable pub write-string : List ℕ → List ℕ
 write-string t = quotes (doubled t)
 
--- `f` or `(_ f n)`
-abbrev pub write-identifier : Identifier → List ℕ
-write-identifier (Identifier.plain f) = bytes f
-write-identifier (Identifier.indexed f n) = sexp-list (bytes "_" ∷ bytes f ∷ decimal n ∷ [])
+-- `f` or `(_ f n)`; W-205: a set function is written as the table of names has it
+abbrev pub write-identifier : NameTable → Identifier → List ℕ
+write-identifier names (Identifier.plain f) = bytes f
+write-identifier names (Identifier.indexed f n) = sexp-list (bytes "_" ∷ bytes f ∷ decimal n ∷ [])
+write-identifier names (Identifier.set f) = names f
 
 -- the source panics at SetEmpty and MapDefault
-unfoldable pub write-thy-func : ThyFunc → List ℕ
-write-thy-func f = write-identifier (thyFuncName f)
+unfoldable pub write-thy-func : NameTable → ThyFunc → List ℕ
+write-thy-func names f = write-identifier names (thyFuncName f)
 
 -- what an applied sort is made by
 abbrev pub write-sort-ctor : SortCtor → List ℕ
@@ -79,7 +81,7 @@ unfoldable mutual
   write-sort enc (Sort.var i) = write-parameter i
   write-sort enc (Sort.func a b) = sexp-list (bytes "Array" ∷ write-sort enc a ∷ write-sort enc b ∷ [])
   write-sort enc (Sort.abs n b) = write-sort enc b
-  write-sort enc (Sort.app c bs) = cond (isOpaque enc c) (bytes "Int") (applied (write-sort-ctor c) (write-sorts enc bs))
+  write-sort enc (Sort.app c bs) = cond (isOpaque (enc .declares) c) (bytes "Int") (applied (write-sort-ctor c) (write-sorts enc bs))
 
   pub write-sorts : Encoder → Sorts → List (List ℕ)
   write-sorts enc Sorts.none = []
@@ -149,7 +151,7 @@ write-as enc f (some b) = sexp-list (bytes "as" ∷ f ∷ write-sort enc b ∷ [
 
 -- an application's head, given its text as an expression and the output sort
 unfoldable pub write-application-head : Encoder → Expr → List ℕ → Option Sort → List ℕ
-write-application-head enc h w o = cond (isQualified enc h) (write-as enc w o) w
+write-application-head enc h w o = cond (isQualified (enc .declares) h) (write-as enc w o) w
 
 -- an expression; the source panics at WKVar
 unfoldable mutual
@@ -168,7 +170,7 @@ unfoldable mutual
   write-expr enc (Expr.atom r a b) = write-atom r (write-expr enc a) (write-expr enc b)
   write-expr enc (Expr.letIn x a b) =
       sexp-list (bytes "let" ∷ sexp-list (sexp-list (write-name x ∷ write-expr enc a ∷ []) ∷ []) ∷ write-expr enc b ∷ [])
-  write-expr enc (Expr.thyFunc f) = write-thy-func f
+  write-expr enc (Expr.thyFunc f) = write-thy-func (enc .names) f
   write-expr enc (Expr.isCtor x e) = sexp-list (sexp-list (bytes "_" ∷ bytes "is" ∷ write-name x ∷ []) ∷ write-expr enc e ∷ [])
   write-expr enc (Expr.quantifier q bs e) =
       sexp-list (write-quantifier q ∷ sexp-list (write-binders enc bs) ∷ write-expr enc e ∷ [])

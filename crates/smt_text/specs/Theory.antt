@@ -1,13 +1,15 @@
--- The names of the theory functions: `write_thy_func`'s table. Another table of names changes this file alone.
+-- The names of the theory functions: `write_thy_func`'s table. A table of names has those of the seven set functions.
 use Prim.Native.Nat.{ℕ}
 use Prim.Native.String.{String}
 use Rattle.task.specs.declared.ThyFunc.{ThyFunc}
 use Rattle.task.specs.declared.ThyFunc.the-variants.{StrLen, StrConcat, StrPrefixOf, StrSuffixOf, StrContains, BvZeroExtend, BvSignExtend, IntToBv8, Bv8ToInt, IntToBv32, Bv32ToInt, IntToBv64, Bv64ToInt, IntToBv128, Bv128ToInt, BvUle, BvSle, BvUge, BvSge, BvUdiv, BvSdiv, BvSrem, BvUrem, BvLshr, BvAshr, BvAnd, BvOr, BvXor, BvNot, BvAdd, BvNeg, BvSub, BvMul, BvShl, BvUgt, BvSgt, BvUlt, BvSlt, SetEmpty, SetSng, SetCup, SetCap, SetDif, SetSub, SetMem, MapDefault, MapSelect, MapStore}
+use Rattle.smt_text.specs.Editions.{SetFunction}
 
--- a symbol, or a symbol with an index: `f`, `(_ f n)`
+-- a symbol, or a symbol with an index: `f`, `(_ f n)`; or a set function
 pub data Identifier : Type 0 where
   plain : String → Identifier
   indexed : String → ℕ → Identifier
+  set : SetFunction → Identifier
 
 -- what a theory function is called
 unfoldable pub thyFuncName : ThyFunc → Identifier
@@ -49,13 +51,13 @@ thyFuncName BvUgt = Identifier.plain "bvugt"
 thyFuncName BvSgt = Identifier.plain "bvsgt"
 thyFuncName BvUlt = Identifier.plain "bvult"
 thyFuncName BvSlt = Identifier.plain "bvslt"
-thyFuncName SetEmpty = Identifier.plain "emptyset"
-thyFuncName SetSng = Identifier.plain "singleton"
-thyFuncName SetCup = Identifier.plain "union"
-thyFuncName SetCap = Identifier.plain "intersection"
-thyFuncName SetDif = Identifier.plain "setminus"
-thyFuncName SetSub = Identifier.plain "subset"
-thyFuncName SetMem = Identifier.plain "member"
+thyFuncName SetEmpty = Identifier.set SetFunction.empty
+thyFuncName SetSng = Identifier.set SetFunction.singleton
+thyFuncName SetCup = Identifier.set SetFunction.union
+thyFuncName SetCap = Identifier.set SetFunction.intersection
+thyFuncName SetDif = Identifier.set SetFunction.difference
+thyFuncName SetSub = Identifier.set SetFunction.subset
+thyFuncName SetMem = Identifier.set SetFunction.member
 thyFuncName MapDefault = Identifier.plain "const"
 thyFuncName MapSelect = Identifier.plain "select"
 thyFuncName MapStore = Identifier.plain "store"

@@ -2,14 +2,13 @@
 use output::Out;
 use task::Quantifier;
 use task::Span;
-use task::ThyFunc;
 ghost use mathlib.Core.Path.{_≡_};
 ghost use mathlib.Core.List.{_∷_};
 ghost use Prim.Native.Nat.{_+_, _*_, _^_};
 ghost use Rattle.smtlib.specs.Compose.{decimal};
 ghost use Rattle.task.specs.Ast.{Constant};
 ghost use Rattle.task.specs.Node.{bytesOf};
-ghost use Rattle.smt_text.specs.Text.{write-name, write-string as stringText, write-parameter as parameterText, write-constant, write-boolean as booleanText, write-quantifier, write-thy-func};
+ghost use Rattle.smt_text.specs.Text.{write-name, write-string as stringText, write-parameter as parameterText, write-constant, write-boolean as booleanText, write-quantifier};
 ghost use Rattle.output.specs.Emit.{output, emits};
 
 // Where a writer ended, and the output then.
@@ -86,14 +85,6 @@ pub fn write_var(s: &[u8], x: Span, p: usize, buf: &mut [u8], out: Out) -> Sent
     ensures { λ r. ⌜ (r .at ≡ p) × (output (now (buf .exit)) (r .out .len) ≡ emits (output (now (buf .entry)) (out .len)) (write-name (bytesOf (now (s .entry)) x))) ⌝ }
 {
     let sent = out.name(buf, s, x);
-    Sent { at: p, out: sent }
-}
-
-// Sends a theory function.
-pub fn write_function(func: ThyFunc, p: usize, buf: &mut [u8], out: Out) -> Sent
-    ensures { λ r. ⌜ (r .at ≡ p) × (output (now (buf .exit)) (r .out .len) ≡ emits (output (now (buf .entry)) (out .len)) (write-thy-func func)) ⌝ }
-{
-    let sent = out.write_thy_func(buf, func);
     Sent { at: p, out: sent }
 }
 

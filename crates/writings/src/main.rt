@@ -1,8 +1,10 @@
-// Writes the pieces of standard input, each behind a byte for its kind, the end of its datatype section in 2 bytes and its length in 2: for
-// each the number of bytes that it is measured to have, a space, its text and a line feed. It reads at most 4,096 pieces.
+// Writes the pieces of standard input, each behind a byte for its kind, to which 128 is added for the edition of cvc5, the end of its datatype
+// section in 2 bytes and its length in 2: for each the number of bytes that it is measured to have, a space, its text and a line feed. It reads at
+// most 4,096 pieces.
 use item_check::Section;
 use libc::STDOUT_FILENO;
 use output::Out;
+use smt_text::Edition;
 use smt_word::Sent;
 use task::Number;
 ghost use Prim.Native.Nat.{_≤_};
@@ -105,12 +107,21 @@ fn write_piece(kind: u8, end: usize, body: &[u8], buf: &mut [u8]) -> Sent
     let mut table = [0u16; 66562];
     if end <= body.len() {
         declared::push_section(body, 0, end, Section::Datatypes, &mut table);
-        return write_encoded(kind, end, body, &table, buf);
+        smt_sort::set_edition(&mut table, edition_of(kind));
+        return write_encoded(kind % 128, end, body, &table, buf);
     }
     Sent {
         at: end,
         out: Out::new(),
     }
+}
+
+// The edition that is asked for with a kind.
+fn edition_of(kind: u8) -> Edition {
+    if kind < 128 {
+        return Edition::Z3;
+    }
+    Edition::Cvc5
 }
 
 fn write_encoded(kind: u8, end: usize, body: &[u8], enc: &[u16], buf: &mut [u8]) -> Sent

@@ -2,13 +2,13 @@
 //!
 //!     oracle/run [FILES [SEED]]
 //!
-//! For each file: survey's answer; every part in a buffer of its length, in one a byte shorter, in none and in a longer one; two parts that
-//! there are not; and the script in the same four buffers. For a refused file every call gives the refusal. No byte may change but those of
+//! For each file, in both editions: survey's answer; every part in a buffer of its length, in one a byte shorter, in none and in a longer one; two
+//! parts that there are not; and the script in the same four buffers. For a refused file every call gives the refusal. No byte may change but those of
 //! a text that was asked for and has room. It prints a table of the files, and ends with exit status 1 at the first difference, with the
 //! smallest file that it finds for it.
-use jiggerreef::{part, script, survey, Refusal, Sizes};
+use jiggerreef::{part, script, survey, Edition, Refusal, Sizes};
 use oracle::chance::{Chance, SEED};
-use oracle::check::checked;
+use oracle::check::{checked, sets};
 use oracle::faults::{any_kind, Case, KINDS};
 use oracle::limits::limits;
 use oracle::shrink::smallest;
@@ -33,15 +33,18 @@ const SAMPLED: usize = 12;
 enum Call { Part(usize), Script }
 
 impl Call {
-    fn answer(&self, file: &[u8], buf: &mut [u8]) -> Result<usize, Refusal> {
+    fn answer(&self, file: &[u8], edition: Edition, buf: &mut [u8]) -> Result<usize, Refusal> {
         match self {
-            Call::Part(i) => part(file, *i, buf),
-            Call::Script => script(file, buf),
+            Call::Part(i) => part(file, edition, *i, buf),
+            Call::Script => script(file, edition, buf),
         }
     }
 }
 
-/// What was compared: parts, calls, and the files of which some parts only.
+/// The editions, in the order of the renderings of a file.
+const EDITIONS: [Edition; 2] = [Edition::Z3, Edition::Cvc5];
+
+/// What was compared: parts, calls, and the scripts of which some parts only.
 #[derive(Default)]
 struct Compared { parts: usize, calls: usize, sampled: usize }
 
@@ -54,65 +57,67 @@ fn same<T: PartialEq + std::fmt::Debug>(what: &str, rendering: T, archive: T) ->
 
 impl Compared {
     /// One call with a buffer of this length: its answer and every byte of the buffer.
-    fn call(&mut self, file: &[u8], call: &Call, length: usize, expected: Answer<&str>) -> Same {
+    fn call(&mut self, file: &[u8], edition: Edition, call: &Call, length: usize, expected: Answer<&str>) -> Same {
         self.calls += 1;
         let mut buf = vec![FILL; length];
-        let answer = call.answer(file, &mut buf).map_err(Refusal::number);
+        let answer = call.answer(file, edition, &mut buf).map_err(Refusal::number);
         let text = expected.unwrap_or("").as_bytes();
         if answer == expected.map(str::len) && buf.starts_with(text) && buf[text.len()..].iter().all(|byte| *byte == FILL) {
             return Ok(());
         }
-        let name = match call { Call::Part(i) => format!("part {i}"), Call::Script => "script".to_string() };
+        let name = match call { Call::Part(i) => format!("{edition:?}, part {i}"), Call::Script => format!("{edition:?}, script") };
         same(&format!("{name} with {length} bytes"), expected.map(str::len), answer)?;
         Err(format!("{name} with {length} bytes: another text, or a byte changed that is none of it"))
     }
 
     /// A text that is to be written: with room for it, with room and more, and with too little.
-    fn text(&mut self, file: &[u8], call: Call, text: &str) -> Same {
-        self.call(file, &call, text.len(), Ok(text))?;
-        self.call(file, &call, text.len() + ROOM, Ok(text))?;
-        self.call(file, &call, text.len() - 1, Err(9))?;
-        self.call(file, &call, 0, Err(9))
+    fn text(&mut self, file: &[u8], edition: Edition, call: Call, text: &str) -> Same {
+        self.call(file, edition, &call, text.len(), Ok(text))?;
+        self.call(file, edition, &call, text.len() + ROOM, Ok(text))?;
+        self.call(file, edition, &call, text.len() - 1, Err(9))?;
+        self.call(file, edition, &call, 0, Err(9))
     }
 
-    fn accepted(&mut self, file: &[u8], rendering: &Rendering) -> Same {
+    fn accepted(&mut self, file: &[u8], edition: Edition, rendering: &Rendering) -> Same {
         let (parts, bytes) = (rendering.ends.len(), rendering.script.len());
         let sizes = Sizes { parts, assertions: rendering.assertions, bytes, longest: rendering.longest() };
-        same("survey", Ok(sizes), survey(file).map_err(Refusal::number))?;
+        same("survey", Ok(sizes), survey(file, edition).map_err(Refusal::number))?;
         let all = parts <= MANY_PARTS || parts * (file.len() + bytes) < FEW_BYTES;
         let step = if all { 1 } else { parts / SAMPLED };
         for i in (0..parts).filter(|i| i % step == 0 || i + 1 == parts) {
-            self.text(file, Call::Part(i), rendering.part(i))?;
+            self.text(file, edition, Call::Part(i), rendering.part(i))?;
             self.parts += 1;
         }
         self.sampled += !all as usize;
-        self.all_refused(file, &[Call::Part(parts), Call::Part(usize::MAX)], 8)?;
-        self.text(file, Call::Script, &rendering.script)
+        self.all_refused(file, edition, &[Call::Part(parts), Call::Part(usize::MAX)], 8)?;
+        self.text(file, edition, Call::Script, &rendering.script)
     }
 
-    fn all_refused(&mut self, file: &[u8], calls: &[Call], refusal: u8) -> Same {
-        calls.iter().try_for_each(|call| [0, ROOM].iter().try_for_each(|length| self.call(file, call, *length, Err(refusal))))
+    fn all_refused(&mut self, file: &[u8], edition: Edition, calls: &[Call], refusal: u8) -> Same {
+        calls.iter().try_for_each(|call| [0, ROOM].iter().try_for_each(|length| self.call(file, edition, call, *length, Err(refusal))))
     }
 
-    fn file(&mut self, file: &[u8], answer: &Answer<Rendering>) -> Same {
-        self.calls += 1;
-        match answer {
-            Ok(rendering) => self.accepted(file, rendering),
-            Err(refusal) => {
-                same("survey", Err(*refusal), survey(file).map_err(Refusal::number))?;
-                self.all_refused(file, &[Call::Part(0), Call::Part(usize::MAX), Call::Script], *refusal)
+    fn file(&mut self, file: &[u8], answer: &Answer<[Rendering; 2]>) -> Same {
+        EDITIONS.into_iter().enumerate().try_for_each(|(i, edition)| {
+            self.calls += 1;
+            match answer {
+                Ok(renderings) => self.accepted(file, edition, &renderings[i]),
+                Err(refusal) => {
+                    same("survey", Err(*refusal), survey(file, edition).map_err(Refusal::number))?;
+                    self.all_refused(file, edition, &[Call::Part(0), Call::Part(usize::MAX), Call::Script], *refusal)
+                }
             }
-        }
+        })
     }
 }
 
 /// For each answer to a file the number of those that got it: accepted in front, then the refusals in the order of judging.
 type Counts = [usize; 1 + REFUSALS.len()];
 
-/// The files by kind and by answer; of all those with a quotation mark in a string; and those with two faults that are noted, by the refusals in
-/// the order of place.
+/// The files by kind and by answer; of all those with a quotation mark in a string, and those with a set function in the script; and those with two
+/// faults that are noted, by the refusals in the order of place.
 #[derive(Default)]
-struct Table { rows: Vec<(String, Counts)>, with_quotes: Counts, pairs: HashMap<[u8; 2], usize>, compared: Compared }
+struct Table { rows: Vec<(String, Counts)>, with_quotes: Counts, with_sets: Counts, pairs: HashMap<[u8; 2], usize>, compared: Compared }
 
 impl Table {
     fn add(&mut self, kind: &str, case: &Case) -> Same {
@@ -127,8 +132,10 @@ impl Table {
         });
         let column = REFUSALS.iter().position(|refusal| *refusal == number).map_or(0, |place| 1 + place);
         self.rows[at].1[column] += 1;
-        let with_quote = decoded(&case.file).is_ok_and(|task| strings(&task).iter().any(|string| string.contains('"')));
-        self.with_quotes[column] += with_quote as usize;
+        if let Ok(task) = decoded(&case.file) {
+            self.with_quotes[column] += strings(&task).iter().any(|string| string.contains('"')) as usize;
+            self.with_sets[column] += (sets(&task) > 0) as usize;
+        }
         case.pair.iter().for_each(|pair| *self.pairs.entry(*pair).or_default() += 1);
         self.compared.file(&case.file, &answer)
     }
@@ -141,6 +148,7 @@ impl Table {
         self.rows.iter().for_each(|(kind, counts)| print(kind, counts));
         print("total", &std::array::from_fn(|number| self.rows.iter().map(|(_, counts)| counts[number]).sum()));
         print("quotes in strings", &self.with_quotes);
+        print("set functions", &self.with_sets);
         println!("two faults, the row's in front of the column's");
         println!("{:<17}{}", "", titles(NOTED));
         for front in NOTED {
@@ -149,7 +157,7 @@ impl Table {
         }
         let Compared { parts, calls, sampled } = self.compared;
         println!("{parts} parts in {calls} calls");
-        println!("of {sampled} files with more than {MANY_PARTS} parts: the first part, the last and every n-th, about {SAMPLED} in all");
+        println!("of {sampled} scripts with more than {MANY_PARTS} parts: the first part, the last and every n-th, about {SAMPLED} in all");
     }
 }
 

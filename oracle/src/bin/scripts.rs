@@ -38,7 +38,7 @@ impl Cases {
     fn add(&mut self, file: &[u8]) -> Answer<Rendering> {
         self.stdin.extend((file.len() as u32).to_le_bytes());
         self.stdin.extend(file);
-        let (answer, number) = (checked(file), self.counts.iter().sum::<usize>());
+        let (answer, number) = (checked(file).map(|[z3, _]| z3), self.counts.iter().sum::<usize>());
         self.stdout += &format!("file {number}: {}\n{}", line(&answer), hornscript(&answer));
         let over = |rendering: &Rendering| if rendering.longest() > LONGEST_PART { 9 } else { 0 };
         self.counts[answer.as_ref().map_or_else(|refusal| *refusal, over) as usize] += 1;

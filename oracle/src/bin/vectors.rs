@@ -3,14 +3,14 @@
 //!     cargo run --release --manifest-path oracle/Cargo.toml --target-dir target/cargo --bin vectors -- crates/replay/data
 //!
 //! For each case it writes `NAME.task`, the bytes, and `NAME.answer` into the directory named, and beside the directory `args`, the names,
-//! one to a line. The first line of an answer is `P parts, A assertions, L bytes, longest M` or `refused N`. For an accepted file there are
-//! two more: `script H`, the checksum of the script, and `ends K`, that of the ends of its parts, each as 8 bytes, little-endian. A checksum
-//! starts with 1 and takes a byte by `h * 257 + byte`, modulo a prime number.
+//! one to a line. An answer is that in the edition of Z3 and then that of cvc5. The first line of each is `P parts, A assertions, L bytes, longest M`
+//! or `refused N`. For an accepted file there are two more: `script H`, the checksum of the script, and `ends K`, that of the ends of its parts, each as
+//! 8 bytes, little-endian. A checksum starts with 1 and takes a byte by `h * 257 + byte`, modulo a prime number.
 use oracle::chance::{Chance, SEED};
 use oracle::check::checked;
 use oracle::faults::{Case, KINDS};
 use oracle::limits::limits;
-use oracle::text::line;
+use oracle::text::sizes;
 use std::{env, fs, io, path::Path};
 
 /// A kind has a file for so much of its share, and at least FEWEST. They are at most LONGEST bytes long.
@@ -25,12 +25,13 @@ const MODULUS: u64 = 36_028_797_018_963_913;
 fn checksum(bytes: impl IntoIterator<Item = u8>) -> u64 { bytes.into_iter().fold(1, |sum, byte| (sum * 257 + byte as u64) % MODULUS) }
 
 fn answer(file: &[u8]) -> String {
-    let answer = checked(file);
-    let checksums = answer.as_ref().map_or(String::new(), |rendering| {
-        let ends = rendering.ends.iter().flat_map(|end| (*end as u64).to_le_bytes());
-        format!("script {}\nends {}\n", checksum(rendering.script.bytes()), checksum(ends))
-    });
-    format!("{}\n{checksums}", line(&answer))
+    match checked(file) {
+        Ok(renderings) => renderings.iter().map(|rendering| {
+            let ends = rendering.ends.iter().flat_map(|end| (*end as u64).to_le_bytes());
+            format!("{}\nscript {}\nends {}\n", sizes(rendering), checksum(rendering.script.bytes()), checksum(ends))
+        }).collect(),
+        Err(refusal) => format!("refused {refusal}\n").repeat(2),
+    }
 }
 
 /// The limits, and some files of each kind by chance; kinds of one fault have names that say so.
@@ -51,7 +52,7 @@ fn main() -> io::Result<()> {
     fs::create_dir_all(directory)?;
     for (name, case) in cases() {
         let answer = answer(&case.file);
-        let refused = answer.strip_prefix("refused ").map_or(0, |number| number.trim_end().parse().expect("a number"));
+        let refused = answer.lines().next().and_then(|line| line.strip_prefix("refused ")).map_or(0, |number| number.parse().expect("a number"));
         assert!(case.due.is_none_or(|due| due == refused), "{name}");
         fs::write(directory.join(format!("{name}.task")), &case.file)?;
         fs::write(directory.join(format!("{name}.answer")), answer)?;

@@ -57,6 +57,9 @@ const THEORY: [&str; 48] = [
     "emptyset", "singleton", "union", "intersection", "setminus", "subset", "member", "const", "select", "store",
 ];
 
+/// The set functions from code 38 on as cvc5 has them (W-205).
+const CVC5_SETS: [&str; 7] = ["set.empty", "set.singleton", "set.union", "set.inter", "set.minus", "set.subset", "set.member"];
+
 const LISTS: &str = "sebcn";
 
 // ---- The notation: a piece is a list of its form's name, if it has one, and its fields; the items of a last field stand without a list
@@ -169,13 +172,18 @@ fn encoded(kind: char, level: usize, tree: &Tree) -> Vec<u8> {
 
 // ---- The text
 
-/// What a datatype section declares: names of sorts and names of constructors.
-struct Declared<'a> { sorts: HashSet<&'a str>, ctors: HashSet<&'a str> }
+/// What a datatype section declares: names of sorts and names of constructors; and whether the edition is that of cvc5.
+struct Declared<'a> { cvc5: bool, sorts: HashSet<&'a str>, ctors: HashSet<&'a str> }
 
 impl<'a> Declared<'a> {
-    fn by(section: &'a [Tree]) -> Self {
+    fn by(section: &'a [Tree], cvc5: bool) -> Self {
         let ctors = section.iter().flat_map(|datatype| datatype.items()[2..].iter().map(|ctor| ctor.items()[0].word())).collect();
-        Declared { sorts: section.iter().map(|datatype| datatype.items()[0].word()).collect(), ctors }
+        Declared { cvc5, sorts: section.iter().map(|datatype| datatype.items()[0].word()).collect(), ctors }
+    }
+
+    fn function(&self, code: &str) -> &'static str {
+        let code = code.parse::<usize>().unwrap();
+        if self.cvc5 && (38..45).contains(&code) { CVC5_SETS[code - 38] } else { THEORY[code] }
     }
 
     fn field(&self, letter: char, item: &Tree) -> String {
@@ -185,7 +193,7 @@ impl<'a> Declared<'a> {
             'N' | 'n' => item.word().to_string(),
             'T' => doubled(&content(item.word())),
             'O' if ["5", "6", "38", "45"].contains(&item.word()) => panic!("a theory function that is not written so"),
-            'O' => THEORY[item.word().parse::<usize>().unwrap()].to_string(),
+            'O' => self.function(item.word()).to_string(),
             _ => item.word().parse::<u128>().unwrap().to_string(),
         }
     }
@@ -195,7 +203,7 @@ impl<'a> Declared<'a> {
         let (form, fields) = head.form('E');
         let name = match (form.1, &fields[..]) {
             ("Var", [(_, [Word(name)])]) if self.ctors.contains(&name[..]) => name,
-            ("Thy", [(_, [Word(code)])]) if code == "38" || code == "45" => THEORY[code.parse::<usize>().unwrap()],
+            ("Thy", [(_, [Word(code)])]) if code == "38" || code == "45" => self.function(code),
             _ => return self.text('E', head),
         };
         format!("(as {name} {})", self.text('S', sort))
@@ -232,7 +240,7 @@ const KINDS: &str = "SEPDKFV";
 
 /// `section` is in the notation, and holds for the records that follow.
 #[derive(Default)]
-struct Cases { section: String, stdin: Vec<u8>, stdout: String, counts: [usize; 7] }
+struct Cases { section: String, stdin: Vec<u8>, stdout: String, counts: [usize; 7], cvc5: usize }
 
 impl Cases {
     fn add(&mut self, kind: char, notation: &str) -> String {
@@ -241,12 +249,21 @@ impl Cases {
         let mut body: Vec<u8> = section.iter().flat_map(|datatype| encoded('D', 0, datatype)).collect();
         let end = body.len();
         body.extend(encoded(kind, 0, &pieces[0]));
-        let text = Declared::by(&section).text(kind, &pieces[0]);
-        assert!(body.len() <= 60_000 && text.len() <= 65_000);
-        self.stdin.extend([vec![at as u8], number(2, end as u128), number(2, body.len() as u128), body].concat());
-        self.stdout += &format!("{} {text}\n", text.len());
-        self.counts[at] += 1;
+        let [text, cvc5] = [false, true].map(|cvc5| Declared::by(&section, cvc5).text(kind, &pieces[0]));
+        self.record(at as u8, end, &body, &text);
+        // The other edition where it has another text
+        if cvc5 != text {
+            self.record(128 + at as u8, end, &body, &cvc5);
+        }
         text
+    }
+
+    fn record(&mut self, kind: u8, end: usize, body: &[u8], text: &str) {
+        assert!(body.len() <= 60_000 && text.len() <= 65_000);
+        self.stdin.extend([vec![kind], number(2, end as u128), number(2, body.len() as u128), body.to_vec()].concat());
+        self.stdout += &format!("{} {text}\n", text.len());
+        self.counts[kind as usize % 128] += 1;
+        self.cvc5 += (kind >= 128) as usize;
     }
 
     fn is(&mut self, kind: char, expected: &str, notation: &str) { assert_eq!(self.add(kind, notation), expected) }
@@ -600,7 +617,7 @@ fn main() -> io::Result<()> {
         cases.section.clear();
         group(&mut cases);
     }
-    eprintln!("{} records, by kind {:?}", cases.counts.iter().sum::<usize>(), cases.counts);
+    eprintln!("{} records, by kind {:?}, {} for cvc5", cases.counts.iter().sum::<usize>(), cases.counts, cases.cvc5);
     fs::create_dir_all(&directory)?;
     fs::write(Path::new(&directory).join("stdin"), cases.stdin)?;
     fs::write(Path::new(&directory).join("stdout"), cases.stdout)

@@ -17,7 +17,7 @@ use oracle::limits::limits;
 use oracle::returns::returns;
 use oracle::task::{accepted, decoded, REFUSALS};
 use oracle::strings::read;
-use oracle::text::rendered;
+use oracle::text::{rendered, Edition};
 use std::panic::{catch_unwind, set_hook, AssertUnwindSafe};
 use std::{any::Any, collections::BTreeMap, env, process::ExitCode};
 use types::*;
@@ -56,7 +56,7 @@ fn compared(file: &[u8]) -> Compared {
         Err(_) if returns => return Compared::Difference,
         Err(panic) => return panicked(file, message(&*panic)),
     };
-    match rendered(file) {
+    match rendered(file, Edition::Z3) {
         _ if !returns => Compared::Difference,
         Ok(rendered) => {
             // Of the quotation marks that the rendering writes twice the source writes one (W-203)

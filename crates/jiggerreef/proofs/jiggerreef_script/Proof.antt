@@ -4,6 +4,9 @@ use borrow.Author.Needs.{needs}
 use Rattle.jiggerreef.proofs.jiggerreef_script.Statement.{statement}
 use Rattle.jiggerreef.proofs.jiggerreef_script.Tie as tie
 
+edition-of-requires : tie.Need-edition-of-requires
+edition-of-requires c κs = search needs
+
 script-requires : tie.Need-script-requires
 script-requires c κs = search needs
 
@@ -14,8 +17,8 @@ same-length : tie.Need-same-length
 same-length c = search needs
 
 returns : tie.Need-returns
-returns c = let h = same-answer _ (c .before .before .before .before .script .ensures .0 .0) (c .store-length .ensures) in ((h .0, h .1, c .before .before .before .before .script .ensures .0 .1), c .before .before .before .before .script .ensures .1)
+returns c = rw (← c .before .before .before .before .before .before .edition-of .ensures) (let h = same-answer _ (c .before .before .before .before .script .ensures .0 .0) (c .store-length .ensures) in ((h .0, h .1, c .before .before .before .before .script .ensures .0 .1), c .before .before .before .before .script .ensures .1))
 
 pub jiggerreef-script-spec : {M : Type 1} → statement M
 jiggerreef-script-spec =
-    tie.close (tie.spec script-requires store-length-requires same-length returns)
+    tie.close (tie.spec edition-of-requires script-requires store-length-requires same-length returns)

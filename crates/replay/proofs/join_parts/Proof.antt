@@ -9,10 +9,10 @@ use Rattle.replay.proofs.join_parts.Statement.{statement}
 use Rattle.replay.proofs.join_parts.Tie as tie
 
 abbrev Inv-loop : tie.InvT-loop
-Inv-loop file parts longest buf₀ room joined₀ i₀ buf joined i = (length buf ≡ length buf₀) × (room ≤ length buf₀) × (joined .bytes < 36028797018963913) × (joined .ends < 36028797018963913) × (i ≤ parts)
+Inv-loop file edition parts longest buf₀ room joined₀ i₀ buf joined i = (length buf ≡ length buf₀) × (room ≤ length buf₀) × (joined .bytes < 36028797018963913) × (joined .ends < 36028797018963913) × (i ≤ parts)
 
 abbrev μ-loop : tie.MeasureT-loop
-μ-loop file parts longest buf₀ room joined₀ i₀ buf joined i = parts - i
+μ-loop file edition parts longest buf₀ room joined₀ i₀ buf joined i = parts - i
 
 sum-requires : tie.Need-sum-requires Inv-loop μ-loop
 sum-requires c κs = search needs

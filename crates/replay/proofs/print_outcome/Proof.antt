@@ -8,11 +8,20 @@ use Rattle.replay.proofs.print_outcome.Tie as tie
 buffer-requires : tie.Need-buffer-requires
 buffer-requires c κs = search needs
 
+new-requires : tie.Need-new-requires
+new-requires c κs = search needs
+
 slice-aggregate-answer : tie.Need-slice-aggregate-answer
 slice-aggregate-answer c = search needs
 
 answer-requires : tie.Need-answer-requires
 answer-requires c κs = search needs
+
+slice-aggregate-answer-2 : tie.Need-slice-aggregate-answer-2
+slice-aggregate-answer-2 c = search needs
+
+answer-requires-2 : tie.Need-answer-requires-2
+answer-requires-2 c κs = search needs
 
 least-requires : tie.Need-least-requires
 least-requires c κs = search needs
@@ -64,8 +73,11 @@ print-outcome-spec =
     tie.close
     (tie.spec
     buffer-requires
+    new-requires
     slice-aggregate-answer
     answer-requires
+    slice-aggregate-answer-2
+    answer-requires-2
     least-requires
     array-share-prefix-text
     slice-aggregate-same-bytes

@@ -65,7 +65,7 @@ use Rattle.smt_expr.proofs.is_qualified.Reads as is-qualified-reads
 use Rattle.smt_word.proofs.open_quantifier.Reads as open-quantifier-reads
 use Rattle.smt_word.proofs.write_bit_vec.Reads as write-bit-vec-reads
 use Rattle.smt_word.proofs.write_boolean.Reads as write-boolean-reads
-use Rattle.smt_word.proofs.write_function.Reads as write-function-reads
+use Rattle.smt_expr.proofs.write_function.Reads as write-function-reads
 use Rattle.smt_word.proofs.write_numeral.Reads as write-numeral-reads
 use Rattle.smt_word.proofs.write_string.Reads as write-string-reads
 use Rattle.smt_word.proofs.write_var.Reads as write-var-reads
@@ -465,7 +465,7 @@ write-expr-returns-19 : (t : ℕ) → write-expr-lts.Need-returns-19 (write-expr
 write-expr-returns-19 t c = expr-arm _ _ _ _ _ _ _ _ _ (c .before .before .before .before .before .before .before .before .if1 .left) (c .before .before .before .before .before .before .before .read-expr-node .ensures) (c .before .before .before .before .before .node18 .given .1) (c .before .before .write-app .ensures)
 
 write-expr-returns-20 : (t : ℕ) → write-expr-lts.Need-returns-20 (write-expr-calls t) (write-expr-at t) write-expr.Post
-unfolding exprOf write-expr
+unfolding exprOf write-expr encoderIn
 write-expr-returns-20 t c = expr-leaf _ _ _ _ _ _ _ _ _ (Expr.thyFunc _) _ (c .before .before .before .before .before .before .before .before .if1 .left) (c .before .before .before .before .before .before .before .read-expr-node .ensures) (c .before .before .before .before .before .node19 .given .1) refl (c .before .before .write-function .ensures)
 
 write-expr-returns-21 : (t : ℕ) → write-expr-lts.Need-returns-21 (write-expr-calls t) (write-expr-at t) write-expr.Post

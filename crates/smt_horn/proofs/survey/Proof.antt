@@ -20,10 +20,10 @@ enum-known-put-2 : tie.Need-enum-known-put-2
 enum-known-put-2 c = search needs
 
 returns : tie.Need-returns
-returns c = survey-found _ (are-bytes (c .before .before .before .before .before .before .before .before .args .file .now) (c .before .before .before .before .before .before .before .shared-slice-known .given)) _ _ _ _ _ (was-given _ _ _ _ _ (c .before .before .before .before .put-parts .ensures) _ _ (c .before .put .given .1)) (c .before .before .before .before .before .before .all-parts .ensures)
+returns c = survey-found _ (are-bytes (c .before .before .before .before .before .before .before .before .args .file .now) (c .before .before .before .before .before .before .before .shared-slice-known .given)) _ _ _ _ _ _ (was-given _ _ _ _ _ _ (c .before .before .before .before .put-parts .ensures) _ _ (c .before .put .given .1)) (c .before .before .before .before .before .before .all-parts .ensures)
 
 returns-2 : tie.Need-returns-2
-returns-2 c = survey-refused _ _ _ _ (was-refused _ _ _ _ _ (c .before .before .before .before .put-parts .ensures) _ (c .before .put2 .given .1))
+returns-2 c = survey-refused _ _ _ _ _ (was-refused _ _ _ _ _ _ (c .before .before .before .before .put-parts .ensures) _ (c .before .put2 .given .1))
 
 pub survey-spec : {M : Type 1} → statement M
 survey-spec =

@@ -1,6 +1,6 @@
 -- `write_piece`: the section ends inside the piece's bytes, and the table is empty.
 use native.Mathlib.Omega.{arith}
-use Rattle.names.proofs.Theorems.{zeros-blank, blank-chained}
+use Rattle.names.proofs.Theorems.{zeros-blank, blank-chained, changes}
 use borrow.Author.Needs.{needs}
 use Rattle.writings.proofs.write_piece.Statement.{statement}
 use Rattle.writings.proofs.write_piece.Tie as tie
@@ -11,11 +11,20 @@ slice-aggregate-push-section c = search needs
 push-section-requires : tie.Need-push-section-requires
 push-section-requires c κs = (record { chained = blank-chained _ _ (zeros-blank 66562 (omega arith)); short = c .before .before .before .before .pre }, c .before .if1 .taken)
 
+slice-aggregate-set-edition : tie.Need-slice-aggregate-set-edition
+slice-aggregate-set-edition c = search needs
+
+edition-of-requires : tie.Need-edition-of-requires
+edition-of-requires c κs = search needs
+
+set-edition-requires : tie.Need-set-edition-requires
+set-edition-requires c κs = search needs
+
 slice-aggregate-write-encoded : tie.Need-slice-aggregate-write-encoded
 slice-aggregate-write-encoded c = search needs
 
 write-encoded-requires : tie.Need-write-encoded-requires
-write-encoded-requires c κs = c .before .before .before .push-section .ensures .chained
+write-encoded-requires c κs = rw (c .before .before .before .set-edition .ensures) (changes .options _ _ _ (c .before .before .before .before .before .before .before .push-section .ensures .chained))
 
 same-length : tie.Need-same-length
 same-length c = search needs
@@ -35,6 +44,9 @@ write-piece-spec =
     (tie.spec
     slice-aggregate-push-section
     push-section-requires
+    slice-aggregate-set-edition
+    edition-of-requires
+    set-edition-requires
     slice-aggregate-write-encoded
     write-encoded-requires
     same-length
