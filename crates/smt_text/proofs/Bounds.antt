@@ -8,13 +8,12 @@ use mathlib.Core.List.{List, [], _∷_}
 use mathlib.Core.Option.{Option, none, some}
 use native.Mathlib.Nat.{pow-succ', lt-of-lt-of-le}
 use native.Mathlib.Omega.{arith}
-use lib.Dec.{T, leb, ltb, eqb, lit≤, leb→le}
+use lib.Dec.{T, leb, ltb, eqb, lit≤}
 use lib.ListN.{length, take, drop, getD, length-append, length-take}
 use lib.Seq.{getD-drop}
 use Rattle.smtlib.specs.Lexicon.{bytes}
 use Rattle.smtlib.specs.Read.{doubled}
 use Rattle.smtlib.specs.Compose.{digits, decimal}
-use Rattle.smtlib.proofs.Bools.{and-left, and-right}
 use Rattle.smtlib.proofs.Decimal.{decimal-digits}
 use Rattle.task.specs.declared.BinRel.{BinRel}
 use Rattle.task.specs.declared.BinRel.the-variants as rel
@@ -304,9 +303,7 @@ module _ (enc : Encoder) (v : Valid (enc .names)) where
 
   -- a name in a valid table has at most 255 bytes
   set-length : (f : SetFunction) → wide (enc .names f) - 130 ≤ 130
-  set-length f =
-      let l = leb→le (length (enc .names f)) 255 (and-left (leb (length (enc .names f)) 255) _ (and-right (leb 1 (length (enc .names f))) _ (v f))) in
-      omega arith
+  set-length f = omega (arith, v f .longest)
 
   -- a theory function: the expression's code pays for 130 bytes of it, its own code for the rest
   thys : Costs 0 (λ f. wide (write-thy-func (enc .names) f) - 130) (coded thyFuncs)

@@ -6,14 +6,13 @@ use mathlib.Core.Path.{_≡_, refl, sym, ap, subst, _∙_}
 use mathlib.Core.Bool.{Bool, true, false, cond, _&&_}
 use mathlib.Core.List.{List, [], _∷_, _++_, append-nil, append-assoc}
 use mathlib.Core.Option.{Option, none, some}
-use lib.Dec.{T, leb, eqb}
-use lib.ListN.{length}
+use lib.Dec.{T, eqb}
 use Rattle.smtlib.specs.Lexicon.{Kind, bytes, all, digit, letter, symbolByte, visible, isNumeral, isSymbol, isOf, reservedWords}
 use Rattle.smtlib.specs.Read.{Token, Spells, as-word, as-string, as-quoted}
 use Rattle.smtlib.specs.Compose.{Follows, paren, line, decimal}
 use Rattle.smtlib.specs.Compose as sexps
 use Rattle.smtlib.specs.Theorems.{Composition}
-use Rattle.smtlib.proofs.Bools.{clash, and-left, and-right, both, or-right, all-map, is-true}
+use Rattle.smtlib.proofs.Bools.{clash, and-left, both, or-right, all-map, is-true}
 use Rattle.smtlib.proofs.Compose.{composition, string-spells}
 use Rattle.smtlib.proofs.Decimal.{decimal-spells}
 use Rattle.task.specs.declared.BinOp.{BinOp}
@@ -29,7 +28,7 @@ use Rattle.task.specs.Ast.{SortCtor, Sort, Sorts, Binder, Constant, Expr, Exprs
 use Rattle.task.specs.Fault.{unless, each, nameFault, textFault, ctorFault, sortFault, sortsFault, binderFault, constantFault, givenFault, exprFault, exprsFault, predFault, dataCtorFault, datatypeFault, bodyFault, functionFault, kvarFault}
 use Rattle.task.specs.Laws.{SoundParts}
 use Rattle.task.proofs.Judging.{sound-parts}
-use Rattle.smt_text.specs.Editions.{SetFunction, NameTable, isName, Valid}
+use Rattle.smt_text.specs.Editions.{SetFunction, NameTable, Valid}
 use Rattle.smt_text.specs.Encoder.{Declared, encoder, isOpaque, isQualified, zip}
 use Rattle.smt_text.specs.Theory.{Identifier, thyFuncName}
 use Rattle.smt_text.specs.Text.{spaced, separated, sexp-list, applied, write-name, write-string, write-identifier, write-thy-func, write-sort-ctor, write-sort, write-sorts, write-binder, write-binders, write-constant, write-nary, write-bin-op, write-atom, write-quantifier, write-as, write-application-head, write-expr, write-exprs, write-pred, write-ctor, write-ctors, write-parameters, write-datatype-decl, write-const-decl, write-fun-body, write-fun-def, write-kvar-decl}
@@ -224,16 +223,12 @@ wellNamed (Identifier.plain f) = isSymbol (bytes f)
 wellNamed (Identifier.indexed f m) = isSymbol (bytes f)
 wellNamed (Identifier.set f) = true
 
--- a name in a valid table is a symbol
-pub valid-symbol : (w : List ℕ) → T (isName w) → T (isSymbol w)
-valid-symbol w h = and-right (leb (length w) 255) _ (and-right (leb 1 (length w)) _ h)
-
 identifier : (i : Identifier) → T (wellNamed i) → Spelled (λ n. write-identifier n i) (identifierSexp i)
 unfolding wellNamed reservedWords
 identifier (Identifier.plain f) h = word f h
 identifier (Identifier.indexed f m) h = form (kept "_" tt ∣ word f h ∣ number m ∣ end)
 identifier (Identifier.set f) h = record {
-  says = λ n v. says-token (as-word Kind.symbol (n f) (valid-symbol (n f) (v f)));
+  says = λ n v. says-token (as-word Kind.symbol (n f) (v f .symbol));
   pieces = place f;
 }
 

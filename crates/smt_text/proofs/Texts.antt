@@ -3,6 +3,8 @@ use mathlib.Core.Path.{_≡_, refl, sym, ap, _∙_}
 use mathlib.Core.Bool.{Bool, true, false, cond, _||_}
 use mathlib.Core.List.{List, [], _∷_, _++_, append-nil, append-assoc}
 use Prim.Native.Nat.{ℕ, zero, suc}
+use native.Mathlib.Omega.{arith}
+use lib.Dec.{lit≤}
 use Rattle.smtlib.specs.Lexicon.{bytes, any, reservedWords}
 use Rattle.smtlib.specs.Read.{doubled}
 use Rattle.smtlib.specs.Compose.{quotes, decimal}
@@ -31,20 +33,20 @@ thy-func-texts = record {
 -- each of the seven
 editions-valid : (e : Edition) → Valid (namesOf e)
 unfolding namesOf reservedWords
-editions-valid Z3 SetFunction.empty = tt
-editions-valid Z3 SetFunction.singleton = tt
-editions-valid Z3 SetFunction.union = tt
-editions-valid Z3 SetFunction.intersection = tt
-editions-valid Z3 SetFunction.difference = tt
-editions-valid Z3 SetFunction.member = tt
-editions-valid Z3 SetFunction.subset = tt
-editions-valid Cvc5 SetFunction.empty = tt
-editions-valid Cvc5 SetFunction.singleton = tt
-editions-valid Cvc5 SetFunction.union = tt
-editions-valid Cvc5 SetFunction.intersection = tt
-editions-valid Cvc5 SetFunction.difference = tt
-editions-valid Cvc5 SetFunction.member = tt
-editions-valid Cvc5 SetFunction.subset = tt
+editions-valid Z3 SetFunction.empty = record { shortest = lit≤ tt; longest = lit≤ tt; symbol = tt }
+editions-valid Z3 SetFunction.singleton = record { shortest = lit≤ tt; longest = lit≤ tt; symbol = tt }
+editions-valid Z3 SetFunction.union = record { shortest = lit≤ tt; longest = lit≤ tt; symbol = tt }
+editions-valid Z3 SetFunction.intersection = record { shortest = lit≤ tt; longest = lit≤ tt; symbol = tt }
+editions-valid Z3 SetFunction.difference = record { shortest = lit≤ tt; longest = lit≤ tt; symbol = tt }
+editions-valid Z3 SetFunction.member = record { shortest = lit≤ tt; longest = lit≤ tt; symbol = tt }
+editions-valid Z3 SetFunction.subset = record { shortest = lit≤ tt; longest = lit≤ tt; symbol = tt }
+editions-valid Cvc5 SetFunction.empty = record { shortest = lit≤ tt; longest = lit≤ tt; symbol = tt }
+editions-valid Cvc5 SetFunction.singleton = record { shortest = lit≤ tt; longest = lit≤ tt; symbol = tt }
+editions-valid Cvc5 SetFunction.union = record { shortest = lit≤ tt; longest = lit≤ tt; symbol = tt }
+editions-valid Cvc5 SetFunction.intersection = record { shortest = lit≤ tt; longest = lit≤ tt; symbol = tt }
+editions-valid Cvc5 SetFunction.difference = record { shortest = lit≤ tt; longest = lit≤ tt; symbol = tt }
+editions-valid Cvc5 SetFunction.member = record { shortest = lit≤ tt; longest = lit≤ tt; symbol = tt }
+editions-valid Cvc5 SetFunction.subset = record { shortest = lit≤ tt; longest = lit≤ tt; symbol = tt }
 
 pub tables : Tables
 unfolding decimal raw thyFuncs namesOf thyFuncName write-thy-func reservedWords
@@ -53,13 +55,13 @@ tables = record {
   before = λ names names'. refl;
   behind = λ names names'. refl;
   editions = editions-valid;
-  shortest = λ f. tt;
-  longest = λ f. tt;
-  empty = λ v. v SetFunction.empty;
-  too-long = λ v. v SetFunction.empty;
-  reserved = λ v. v SetFunction.empty;
-  numeral = λ v. v SetFunction.empty;
-  blank = λ v. v SetFunction.empty;
+  shortest = λ f. record { shortest = lit≤ tt; longest = lit≤ tt; symbol = tt };
+  longest = λ f. record { shortest = lit≤ tt; longest = lit≤ tt; symbol = tt };
+  empty = λ v. omega (arith, v SetFunction.empty .shortest);
+  too-long = λ v. omega (arith, v SetFunction.empty .longest);
+  reserved = λ v. v SetFunction.empty .symbol;
+  numeral = λ v. v SetFunction.empty .symbol;
+  blank = λ v. v SetFunction.empty .symbol;
 }
 
 -- the edition of a number

@@ -1,9 +1,8 @@
 -- W-205. The seven set functions, a table of their names, and the tables of the two editions.
-use Prim.Native.Nat.{ℕ, zero, suc}
+use Prim.Native.Nat.{ℕ, zero, suc, _≤_}
 use Prim.Native.String.{String}
-use mathlib.Core.Bool.{Bool, _&&_}
 use mathlib.Core.List.{List}
-use lib.Dec.{T, leb}
+use lib.Dec.{T}
 use lib.ListN.{length}
 use Rattle.smtlib.specs.Lexicon.{bytes, isSymbol}
 use Rattle.smt_text.specs.declared.Edition.{Edition}
@@ -24,12 +23,14 @@ abbrev pub NameTable : Type 0
 NameTable = SetFunction → List ℕ
 
 -- a name of 1 to 255 bytes that refusal 4 does not cover
-abbrev pub isName : List ℕ → Bool
-isName w = leb 1 (length w) && (leb (length w) 255 && isSymbol w)
+pub record Name (w : List ℕ) : Type 0 where
+  pub shortest : 1 ≤ length w
+  pub longest : length w ≤ 255
+  pub symbol : T (isSymbol w)
 
 -- each of the seven has such a name
 abbrev pub Valid : NameTable → Type 0
-Valid names = (f : SetFunction) → T (isName (names f))
+Valid names = (f : SetFunction) → Name (names f)
 
 -- what an edition calls each of the seven
 abbrev pub nameIn : Edition → SetFunction → String
