@@ -7,7 +7,6 @@ use mathlib.Core.List.{List, [], _∷_, _++_, map, append-assoc, map-append}
 use mathlib.Core.Option.{Option, none, some}
 use native.Mathlib.Nat.{add-assoc, zero-sub, sub-zero, suc-sub-suc}
 use native.Mathlib.Omega.{arith}
-use lib.Dec.{T}
 use lib.ListN.{length, take, length-append, length-map, length-take}
 use lib.Seq.{take-nil, take-length}
 use Rattle.smtlib.specs.Lexicon.{bytes, all, visible, reservedWords}
@@ -25,7 +24,7 @@ use Rattle.task.specs.Task.{literallyTrue, declarations}
 use Rattle.task.proofs.Judging.{sound-parts}
 use Rattle.smt_text.specs.Editions.{NameTable, Valid}
 use Rattle.smt_text.specs.Encoder.{Declared, declared, encoder}
-use Rattle.smt_text.specs.Template.{Template, fill, setsInAll, Filled}
+use Rattle.smt_text.specs.Template.{Template, fill, setsInAll}
 use Rattle.smt_text.specs.Text.{write-binder, write-binders}
 use Rattle.smt_text.specs.Sexp.{row, reserved, symbol, binderSexp, bindersSexp, datatypeCommand, constantCommand, bodyCommand, functionCommand, kvarCommand}
 use Rattle.smt_text.specs.Theorems.{Spelled, Written}

@@ -24,7 +24,7 @@ use Rattle.smt_text.specs.Editions.{SetFunction, Valid}
 use Rattle.smt_text.specs.Encoder.{Encoder, isOpaque, isQualified, zip}
 use Rattle.smt_text.specs.Theory.{thyFuncName}
 use Rattle.smt_text.specs.Text.{spaced, separated, applied, write-name, write-string, write-thy-func, write-sort-ctor, write-sort, write-sorts, write-binder, write-binders, write-boolean, write-nary, write-bin-op, write-atom, write-quantifier, write-as, write-application-head, write-expr, write-exprs, write-pred, write-ctor, write-ctors, write-parameters, write-datatype-body, write-datatype-decl, write-const-decl, write-fun-body, write-fun-def, write-kvar-decl}
-use Rattle.smt_text.specs.Theorems.{Bounded, Bounds, parameters}
+use Rattle.smt_text.specs.Theorems.{Bounded, ValidBounds, parameters}
 
 -- 130 for each byte read, and c besides, pay for the size of what is decoded
 pub record Costs {A : Type 0} (c : ℕ) (size : A → ℕ) (d : Decoder A) : Type 0 where
@@ -430,7 +430,7 @@ within : {A : Type 0} {apart size : A → ℕ} {text : A → List ℕ} {d : Deco
     → ((a : A) → length (text a) ≤ size a + apart a) → Costs 0 size d → Bounded apart text d
 within h c = record { bounded = λ s b at a p e. omega (arith, h a, c .costs s b at a p e) }
 
-pub bounds : (enc : Encoder) → Valid (enc .names) → Bounds enc
+pub bounds : ValidBounds
 bounds enc v = record {
   sorts = λ l. within (λ a. omega arith) (sorts enc v l);
   exprs = λ l. within (λ a. omega arith) (exprs enc v l);

@@ -5,7 +5,7 @@ use mathlib.Core.List.{List, [], _∷_, _++_, append-nil, append-assoc}
 use Prim.Native.Nat.{ℕ, zero, suc}
 use native.Mathlib.Omega.{arith}
 use lib.Dec.{lit≤}
-use Rattle.smtlib.specs.Lexicon.{bytes, any, reservedWords}
+use Rattle.smtlib.specs.Lexicon.{any, reservedWords}
 use Rattle.smtlib.specs.Read.{doubled}
 use Rattle.smtlib.specs.Compose.{quotes, decimal}
 use Rattle.smtlib.proofs.Bools.{clash}

@@ -27,7 +27,7 @@ pub record Written (text : NameTable → List ℕ) (xs : List Template) : Type 0
   pub writes : (names : NameTable) → Valid names → Writes (text names) (map (fill names) xs)
   pub pieces : Filled text (setsInAll xs)
 
--- The text of a piece without fault spells what is called for; that of a declaration is its command. (proofs/Spelling.antt: spelling)
+-- The texts of a piece without fault spell what is called for; those of a declaration are its command. (proofs/Spelling.antt: spelling)
 pub record Spelling (env : Declared) : Type 0 where
   pub names : (x : List ℕ) → nameFault x ≡ Sound → Spelled (λ n. write-name x) (nameSexp x)
   pub strings : (t : List ℕ) → textFault t ≡ Sound → Spelled (λ n. write-string t) (stringSexp t)
@@ -53,7 +53,7 @@ none a = 0
 abbrev pub parameters : DataDecl → ℕ
 parameters d = 7 * d .vars
 
--- where the set functions have names of at most 255 bytes (proofs/Bounds.antt: bounds)
+-- of each kind of piece
 pub record Bounds (enc : Encoder) : Type 0 where
   pub sorts : (l : ℕ) → Bounded none (write-sort enc) (decSort l)
   pub exprs : (l : ℕ) → Bounded none (write-expr enc) (decExpr l)
@@ -62,3 +62,7 @@ pub record Bounds (enc : Encoder) : Type 0 where
   pub constants : Bounded none (write-const-decl enc) constant
   pub functions : Bounded none (write-fun-def enc) function
   pub kvars : Bounded none (write-kvar-decl enc) kvar
+
+-- So it is with every valid table. (proofs/Bounds.antt: bounds)
+abbrev pub ValidBounds : Type 0
+ValidBounds = (enc : Encoder) → Valid (enc .names) → Bounds enc
