@@ -11,10 +11,11 @@ use std::{collections::BTreeSet, iter::repeat_with};
 /// The quarters of a case's whole size.
 pub const WHOLE: usize = 4;
 
-/// A case: its name, whether its growth is measured, and its files at so many quarters of its size.
+/// A case: its name, whether its growth is measured, and its files at so many quarters of its size. It is measured in the edition of cvc5 if its name
+/// ends so, and else in that of Z3.
 pub type Case = (&'static str, bool, fn(usize) -> Vec<Vec<u8>>);
 
-pub const CASES: [Case; 19] = [
+pub const CASES: [Case; 21] = [
     ("deep", true, |quarters| vec![deep(quarters)]),
     ("wide", true, |quarters| vec![packed(&format!("h: {}", heads(share(WIDE_HEADS, quarters))))]),
     ("wide-kvars", false, |quarters| vec![filled(quarters, WIDE_KVARS, || "0 0 'k0 #1 5 'x".to_string())]),
@@ -25,6 +26,8 @@ pub const CASES: [Case; 19] = [
     ("binders", true, |quarters| vec![binders(share(BINDERS, quarters))]),
     ("applications", true, |quarters| vec![applications(share(APPS, quarters), share(VARIABLES, quarters))]),
     ("names", true, |quarters| vec![filled(quarters, NAMES, || "17 0 5 'merge #2 5 'left 5 'right".to_string())]),
+    ("sets", false, |quarters| vec![filled(quarters, SETS, membership)]),
+    ("sets-cvc5", false, |quarters| vec![filled(quarters, SETS, membership)]),
     ("constants", true, |quarters| vec![constants(&short_names(share(CONSTANTS, quarters)))]),
     ("constants-one-bucket", true, |quarters| vec![constants(&short_names_in_one_bucket(share(CONSTANTS_IN_ONE_BUCKET, quarters)))]),
     ("quantified", true, |quarters| vec![quantified(share(QUANTIFIED, quarters), share(QUANTIFIED_VARIABLES, quarters))]),
@@ -53,9 +56,10 @@ const LETS: usize = 200;
 const STRING_BYTES: usize = 1000;
 const GENERATED: usize = 1000;
 
-/// What stands before the heads of `wide-kvars`, and before the applications of `names`.
+/// What stands before the heads of `wide-kvars`, before the applications of `names`, and before the memberships of `sets`.
 const WIDE_KVARS: &str = "k: 'p 1 v: 'k0 #1 0 h: 2 'x 0 #2 P P 1 #@";
 const NAMES: &str = "k: 'left 0 'right 0 f: 'merge #0 #2 0 0 1 0 h: 0 1 13 #@";
+const SETS: &str = "k: 'x 0 's 9 #1 0 't 9 #1 0 h: 0 1 13 #@";
 
 /// The pieces of the drafts that expressions are taken from, and the bytes that each of these has at least.
 const PIECES: usize = 1500;
@@ -74,6 +78,9 @@ fn filled(quarters: usize, before: &str, item: impl FnMut() -> String) -> Vec<u8
     let items: Vec<String> = repeat_with(item).take_while(fits).collect();
     packed(&format!("{} {}", before.replace('@', &items.len().to_string()), items.join(" ")))
 }
+
+/// That x is in the union of s and t.
+fn membership() -> String { "17 0 18 44 #2 5 'x 17 0 18 40 #2 5 's 5 't".to_string() }
 
 fn as_words(bytes: &[u8]) -> String { bytes.iter().map(|byte| format!("{byte} ")).collect() }
 

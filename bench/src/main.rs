@@ -26,19 +26,27 @@ const LEAST: f64 = 20e-6;
 const MANY_PARTS: usize = 500;
 const SAMPLED: usize = 50;
 
-/// A file and its script. The buffer is as long as the script and was written to before. `sample` are the parts that are measured.
-struct Subject { file: Vec<u8>, script: String, buf: Vec<u8>, parts: usize, sample: Vec<usize> }
+/// The edition of the rendering that is measured beside one of the archive's.
+fn rendering_edition(edition: Edition) -> oracle::text::Edition {
+    match edition {
+        Edition::Z3 => oracle::text::Edition::Z3,
+        Edition::Cvc5 => oracle::text::Edition::Cvc5,
+    }
+}
+
+/// A file and its script in an edition. The buffer is as long as the script and was written to before. `sample` are the parts that are measured.
+struct Subject { file: Vec<u8>, edition: Edition, script: String, buf: Vec<u8>, parts: usize, sample: Vec<usize> }
 
 impl Subject {
     /// The archive has to write what the rendering writes.
-    fn new(file: Vec<u8>) -> Self {
-        let rendering = rendered(&file, oracle::text::Edition::Z3).expect("an accepted file");
+    fn new(file: Vec<u8>, edition: Edition) -> Self {
+        let rendering = rendered(&file, rendering_edition(edition)).expect("an accepted file");
         let (script, parts) = (rendering.script, rendering.ends.len());
         let mut buf = vec![b' '; script.len()];
-        assert!(jiggerreef::script(&file, Edition::Z3, &mut buf) == Ok(script.len()) && buf == script.as_bytes());
+        assert!(jiggerreef::script(&file, edition, &mut buf) == Ok(script.len()) && buf == script.as_bytes());
         let middle = |i: usize| (2 * i + 1) * parts / (2 * SAMPLED);
         let sample = if parts > MANY_PARTS { (0..SAMPLED).map(middle).collect() } else { (0..parts).collect() };
-        Subject { file, script, buf, parts, sample }
+        Subject { file, edition, script, buf, parts, sample }
     }
 
     fn bytes(&self) -> usize { self.file.len() + self.script.len() }
@@ -51,12 +59,12 @@ enum Measured { Survey, Script, Parts, Rendering, Copied }
 
 impl Measured {
     /// Its time in seconds.
-    fn time(self, Subject { file, script, buf, parts, sample }: &mut Subject) -> f64 {
+    fn time(self, Subject { file, edition, script, buf, parts, sample }: &mut Subject) -> f64 {
         match self {
-            Survey => seconds(|| jiggerreef::survey(file, Edition::Z3)),
-            Script => seconds(|| jiggerreef::script(file, Edition::Z3, buf)),
-            Parts => seconds(|| sample.iter().all(|i| jiggerreef::part(file, Edition::Z3, *i, buf).is_ok())) * *parts as f64 / sample.len() as f64,
-            Rendering => seconds(|| rendered(black_box(file), oracle::text::Edition::Z3)),
+            Survey => seconds(|| jiggerreef::survey(file, *edition)),
+            Script => seconds(|| jiggerreef::script(file, *edition, buf)),
+            Parts => seconds(|| sample.iter().all(|i| jiggerreef::part(file, *edition, *i, buf).is_ok())) * *parts as f64 / sample.len() as f64,
+            Rendering => seconds(|| rendered(black_box(file), rendering_edition(*edition))),
             Copied => seconds(|| black_box(&mut *buf).copy_from_slice(black_box(script.as_bytes()))),
         }
     }
@@ -94,27 +102,33 @@ fn figure(number: f64) -> String {
     format!("{number:.*}", decimals as usize)
 }
 
+/// The files of a case at so many quarters of its size.
+fn subjects((name, _, files): &Case, quarters: usize) -> Vec<Subject> {
+    let edition = if name.ends_with("cvc5") { Edition::Cvc5 } else { Edition::Z3 };
+    files(quarters).into_iter().map(|file| Subject::new(file, edition)).collect()
+}
+
 /// The row of a case among the comparisons.
-fn compared((name, _, files): &Case, at_least: f64) -> Vec<String> {
-    let mut subjects: Vec<Subject> = files(WHOLE).into_iter().map(Subject::new).collect();
+fn compared(case: &Case, at_least: f64) -> Vec<String> {
+    let mut subjects = subjects(case, WHOLE);
     let times = shortest(&mut subjects, [Survey, Script, Parts, Rendering, Copied], at_least);
     let [survey, script, parts, rendering, copied] = std::array::from_fn(|i| times.iter().map(|times| times[i]).sum::<f64>());
     let sum = |number: fn(&Subject) -> usize| subjects.iter().map(number).sum::<usize>().to_string();
     let about = if subjects.iter().any(Subject::sampled) { "~" } else { "" };
     let sizes = [sum(|subject| subject.file.len()), sum(|subject| subject.script.len()), sum(|subject| subject.parts)];
     let ratios = [script / rendering, survey / rendering, script / copied].map(figure);
-    let first = [name.to_string()].into_iter().chain(sizes).chain([figure(script * 1e3)]);
+    let first = [case.0.to_string()].into_iter().chain(sizes).chain([figure(script * 1e3)]);
     first.chain(ratios).chain([format!("{about}{}", figure(parts / script))]).collect()
 }
 
 /// The row of a case among the growths, in nanoseconds for a byte.
-fn grown((name, _, files): &Case, at_least: f64) -> Vec<String> {
-    let mut subjects: Vec<Subject> = [1, 2, WHOLE].into_iter().flat_map(files).map(Subject::new).collect();
+fn grown(case: &Case, at_least: f64) -> Vec<String> {
+    let mut subjects: Vec<Subject> = [1, 2, WHOLE].into_iter().flat_map(|quarters| subjects(case, quarters)).collect();
     let times = shortest(&mut subjects, [Script, Rendering, Survey], at_least);
     let for_a_byte = |i: usize, at: usize| times[at][i] * 1e9 / subjects[at].bytes() as f64;
     let growths = [(0, 0), (1, 0), (2, 1)].map(|(i, from)| figure(for_a_byte(i, 2) / for_a_byte(i, from)));
     let sizes = subjects.iter().map(|subject| subject.bytes().to_string());
-    [name.to_string()].into_iter().chain(sizes).chain([0, 1, 2].map(|at| figure(for_a_byte(0, at)))).chain(growths).collect()
+    [case.0.to_string()].into_iter().chain(sizes).chain([0, 1, 2].map(|at| figure(for_a_byte(0, at)))).chain(growths).collect()
 }
 
 /// A table with numbers behind the first column.
