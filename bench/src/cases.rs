@@ -15,8 +15,10 @@ pub const WHOLE: usize = 4;
 /// ends so, and else in that of Z3.
 pub type Case = (&'static str, bool, fn(usize) -> Vec<Vec<u8>>);
 
-pub const CASES: [Case; 21] = [
+pub const CASES: [Case; 23] = [
     ("deep", true, |quarters| vec![deep(quarters)]),
+    ("deep-guards", true, |quarters| vec![deep_guards(quarters)]),
+    ("deep-names", true, |quarters| vec![deep_names(quarters)]),
     ("wide", true, |quarters| vec![packed(&format!("h: {}", heads(share(WIDE_HEADS, quarters))))]),
     ("wide-kvars", false, |quarters| vec![filled(quarters, WIDE_KVARS, || "0 0 'k0 #1 5 'x".to_string())]),
     ("expressions", true, |quarters| vec![expressions(quarters)]),
@@ -41,6 +43,8 @@ pub const CASES: [Case; 21] = [
 
 const DEEP_FORALLS: usize = 200;
 const DEEP_HEADS: usize = 10_000;
+const DEEP_NAMES: usize = 250;
+const NAME_BYTES: usize = 100;
 const WIDE_HEADS: usize = 14_000;
 const MANY_DATATYPES: usize = 1500;
 const FEW_DATATYPES: usize = 20;
@@ -92,6 +96,21 @@ fn deep(quarters: usize) -> Vec<u8> {
     let file = packed(&format!("h: {}", nested(share(DEEP_FORALLS, quarters), &heads(share(DEEP_HEADS, quarters)))));
     assert!(quarters < WHOLE || file == include_bytes!("../../crates/replay/data/deep.task"));
     file
+}
+
+/// So many ForAlls with a guard each, whose text has 157 bytes and its coding 67: two numerals of 39 digits, and `str.prefixof` five times around one
+/// of them. In the innermost a Conj of as many heads that are literally false as fit.
+fn deep_guards(quarters: usize) -> Vec<u8> {
+    let numeral = format!("0 {}", as_words(&[255; 16]));
+    let guard = format!("1 10 0 {}{numeral}{numeral}", "17 0 18 2 #1 ".repeat(5));
+    let around: String = (0..share(DEEP_FORALLS, quarters)).map(|i| format!("2 'x{i} 0 #1 {guard}")).collect();
+    filled(quarters, &format!("h: {around} 1 #@"), || "0 F".to_string())
+}
+
+/// So many ForAlls without predicates, with names of NAME_BYTES bytes, and the same in the innermost.
+fn deep_names(quarters: usize) -> Vec<u8> {
+    let around: String = (0..share(DEEP_NAMES, quarters)).map(|i| format!("2 '{i:n>NAME_BYTES$} 0 #0 ")).collect();
+    filled(quarters, &format!("h: {around} 1 #@"), || "0 F".to_string())
 }
 
 /// As many expressions as fit, and a constant for each name that is free in them.

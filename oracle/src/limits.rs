@@ -413,12 +413,18 @@ impl Limits {
     }
 
     /// Paths whose binders or guards have so many bytes as text, in a file of so many bytes: heads and a ForAll under them, a shorter path behind.
+    /// And ForAlls and heads in turns under paths that are far longer.
     fn paths(&mut self) {
         for (size, bytes) in [(1000, 2048), (1000, 2049), (1001, 2049), (8000, 16_384), (8000, 16_385)] {
             for (kind, path) in [("binders", binders(bytes)), ("guards", guards(bytes))] {
                 let words = format!("{DECLARED} {GUARDS} h: 1 #2 {path} 1 #3 0 K 0 1 E 2 'y 0 #1 P 0 K 2 'z 0 #2 T P 1 #2 0 1 E 0 K");
                 self.words(&format!("path-of-{bytes}-{kind}-in-{size}"), 0, &padded(size, &words));
             }
+        }
+        for (kind, path) in [("binders", binders(40_000)), ("guards", guards(40_000))] {
+            let members = "2 'y 0 #2 P P 0 K 0 K 2 'y 0 #2 T T 1 #2 0 K 0 1 E 0 1 E 2 'y 0 #1 P 2 'z 0 #1 P 1 #2 0 K 0 1 E";
+            let words = format!("{DECLARED} {GUARDS} h: 1 #2 {path} 1 #5 {members} 2 'z 0 #2 T P 1 #2 0 1 E 0 K");
+            self.words(&format!("members-under-40000-{kind}"), 0, &words);
         }
     }
 

@@ -1,8 +1,8 @@
--- What the loops over a path and over predicates add up to: binders and guards that are sent, guards that are counted.
+-- What the loops over a path and over predicates add up to: binders that are sent, guards that are sent and counted.
 use mathlib.Core.Path.{_≡_, refl, sym, ap, _∙_, subst}
 use mathlib.Core.Bool.{Bool, true, false, cond, _&&_}
 use mathlib.Core.List.{List, [], _∷_, _++_, append-assoc}
-use Prim.Native.Nat.{ℕ, zero, suc, _+_, _-_, _<_, _≤_, min}
+use Prim.Native.Nat.{ℕ, zero, suc, _+_, _-_, _<_, _≤_}
 use native.Mathlib.Numerals.{add-one}
 use native.Mathlib.Omega.{arith}
 use lib.Dec.{leb, eqb}
@@ -32,10 +32,9 @@ use Rattle.horn_text.specs.Clauses.{ForAll, kept, guardsOf}
 use Rattle.horn_text.specs.Script.{write-preds}
 use Rattle.task.specs.Run.{Runs}
 use Rattle.task.proofs.Running.{runs-refused, runs-end, Steps, Owing, owing-start, owing-more, owing-end}
-use Rattle.output.specs.Emit.{Output, emit, emits, Sends}
+use Rattle.output.specs.Emit.{Output, output, emit, emits, Sends}
 use Rattle.output.proofs.Sent.{emits-append}
-use Rattle.output.proofs.Sending.{sends-end}
-use Rattle.assertion.specs.Under.{forAllAt, onPath, varsText, keptText, ownText, guardsText, count, counts, Counts, Passes, trueAt}
+use Rattle.assertion.specs.Under.{forAllAt, onPath, varsText, keptText, ownVar, ownText, guardsText, Listing, listing, lists, trueAt}
 
 -- PATHS
 
@@ -95,6 +94,18 @@ module _ {W : Type 0} {one : W → Pred → W} {all : W → List Pred → W} (st
       let en : n ≡ 0 = omega arith in
       owing-end steps (many [] _∷_ (decPred deepest) m s at) first p w (rw en at l)
 
+-- LISTS
+
+same-listing : {o o' : Output} {n n' : ℕ} → o ≡ o' → n ≡ n' → _≡_ {A = Listing} (record { out = o; count = n }) (record { out = o'; count = n' })
+same-listing p q = λ i. record { out = p i; count = q i }
+
+-- a predicate that is literally true adds nothing to a list, another itself
+lists-one : (enc : Encoder) (w : Listing) (p : Pred) (t : Bool) → literallyTrue p ≡ t
+    → lists enc w (p ∷ []) ≡ cond t w (record { out = emits (emit (w .out) 32) (write-pred enc p); count = w .count + 1 })
+unfolding lists keptText emits
+lists-one enc w p true e = rw e (same-listing refl (omega arith))
+lists-one enc w p false e = rw (e, emits-append) refl
+
 -- BOOLEAN TRUE
 
 -- the test of its three bytes, as the code goes through it
@@ -146,49 +157,35 @@ module _ (s : List ℕ) (at : ℕ) (t : Bool) (e : t ≡ trueAt s at) (h : t ≡
   stands = true-decoded s at _ _ _ _ refl refl refl refl (sym e ∙ h)
 
   -- so it is passed over: nothing is sent for it, and it is not counted
-  pub true-sends : (enc : Encoder) (o : Output) → Sends (λ p. keptText enc (p ∷ [])) (decPred deepest s at) o o (at + 3)
-  unfolding keptText literallyTrue emits
-  true-sends enc o = rw stands (sends-end (λ p. keptText enc (p ∷ [])) o o (at + 3) (Pred.expr (Expr.constant (Constant.boolean true))) (at + 3) refl refl)
-
-  pub true-passed : (n : ℕ) → Passes count (decPred deepest s at) n n (at + 3)
-  unfolding Passes literallyTrue
-  true-passed n = rw stands (runs-end count n n (at + 3) (Pred.expr (Expr.constant (Constant.boolean true))) (at + 3) refl refl)
+  pub true-listed : (enc : Encoder) (w : Listing) → Runs (λ v p. lists enc v (p ∷ [])) (decPred deepest s at) w w (at + 3)
+  unfolding literallyTrue
+  true-listed enc w =
+      let p = Pred.expr (Expr.constant (Constant.boolean true)) in
+      rw stands (runs-end (λ v q. lists enc v (q ∷ [])) w w (at + 3) p (at + 3) refl (sym (lists-one enc w p true refl)))
 
 -- A PREDICATE
-
--- one that is not literally true, or nothing
-keeps : (enc : Encoder) (p : Pred) (t : Bool) → literallyTrue p ≡ t → keptText enc (p ∷ []) ≡ cond t [] (32 ∷ write-pred enc p ++ [])
-unfolding keptText
-keeps enc p true e = rw e
-keeps enc p false e = rw e
 
 module _ (enc : Encoder) (x : Res Pred) (t : Bool) (e : t ≡ readTrue x) where
   tested : (p : Pred) (q : ℕ) → x ≡ got p q → literallyTrue p ≡ t
   tested p q e' = sym (e ∙ ap readTrue e')
 
-  pub guard-other : (o o1 o2 : Output) (q : ℕ) → t ≡ false → o1 ≡ emit o 32 → Sends (write-pred enc) x o1 o2 q
-      → Sends (λ p. keptText enc (p ∷ [])) x o o2 q
-  unfolding Sends emits
-  guard-other o o1 o2 q f e1 w p z e' =
+  pub guard-other : (o o1 o2 : Output) (n q : ℕ) → t ≡ false → o1 ≡ emit o 32 → Sends (write-pred enc) x o1 o2 q
+      → Runs (λ v p. lists enc v (p ∷ [])) x (record { out = o; count = n }) (record { out = o2; count = n + 1 }) q
+  unfolding Sends
+  guard-other o o1 o2 n q f e1 w p z e' =
       let v = w p z e' in
-      let k = keeps enc p false (tested p z e' ∙ f) in
-      (v .0, v .1 ∙ rw (k, e1, emits-append) refl)
+      (v .0, rw (v .1, e1) (sym (lists-one enc (record { out = o; count = n }) p false (tested p z e' ∙ f))))
 
   module _ (v : Walked) (e2 : v ≡ walked predFault x) where
-    pub guard-true : (o : Output) (q : ℕ) (f : Fault) → t ≡ true → v ≡ walked-is.Next q f → Sends (λ p. keptText enc (p ∷ [])) x o o q
-    unfolding Sends emits
-    guard-true o q f h e3 p z e' =
+    pub guard-true : (w : Listing) (q : ℕ) (f : Fault) → t ≡ true → v ≡ walked-is.Next q f → Runs (λ v p. lists enc v (p ∷ [])) x w w q
+    guard-true w q f h e3 p z e' =
         let y : walked-is.Next q f ≡ walked-is.Next z (predFault p) = sym e3 ∙ e2 ∙ ap (walked predFault) e' in
-        (cc, rw (keeps enc p true (tested p z e' ∙ h)))
+        (cc, sym (lists-one enc w p true (tested p z e' ∙ h)))
 
--- a piece that the walker refuses is refused
-pub walk-refused : {A W : Type 0} (run : W → A → W) (fault : A → Fault) (x : Res A) (v : Walked) (w w' : W) (r k : ℕ) → v ≡ walked fault x → v ≡ walked-is.Refused k → Runs run x w w' r
-walk-refused run fault x v w w' r k e e' = rw (refused-is fault x k (sym e' ∙ e)) (runs-refused run w w' r k)
-
-pub guard-refused : (enc : Encoder) (x : Res Pred) (v : Walked) (o o' : Output) (r k : ℕ) → v ≡ walked predFault x → v ≡ walked-is.Refused k
-    → Sends (λ p. keptText enc (p ∷ [])) x o o' r
-unfolding Sends
-guard-refused enc x v o o' r k e e' = walk-refused (λ w p. emits w (keptText enc (p ∷ []))) predFault x v o o' r k e e'
+-- one that the walker refuses is refused
+pub guard-refused : (enc : Encoder) (x : Res Pred) (v : Walked) (w w' : Listing) (r k : ℕ) → v ≡ walked predFault x → v ≡ walked-is.Refused k
+    → Runs (λ v p. lists enc v (p ∷ [])) x w w' r
+guard-refused enc x v w w' r k e e' = rw (refused-is predFault x k (sym e' ∙ e)) (runs-refused (λ v p. lists enc v (p ∷ [])) w w' r k)
 
 -- SENT ONE BY ONE
 
@@ -201,17 +198,16 @@ preds-append enc [] qs = refl
 preds-append enc (p ∷ ps) qs = ap (λ (ws : List (List ℕ)). write-pred enc p ∷ ws) (preds-append enc ps qs)
 
 module _ (enc : Encoder) where
-  pub kept-steps : Steps [] _∷_ (λ (o : Output) (p : Pred). emits o (keptText enc (p ∷ []))) (λ o ps. emits o (keptText enc ps))
-  unfolding emits keptText
-  kept-steps = record { none = λ o. refl; step = λ o p ps. step o p ps (literallyTrue p) refl }
+  pub lists-steps : Steps [] _∷_ (λ (w : Listing) (p : Pred). lists enc w (p ∷ [])) (lists enc)
+  unfolding emits lists keptText
+  lists-steps = record { none = λ w. same-listing refl (omega arith); step = λ w p ps. step w p ps (literallyTrue p) refl }
     where
-      step : (o : Output) (p : Pred) (ps : List Pred) (t : Bool) → literallyTrue p ≡ t
-          → emits o (spaced (write-preds enc (kept (p ∷ ps)))) ≡ emits (emits o (spaced (write-preds enc (kept (p ∷ []))))) (spaced (write-preds enc (kept ps)))
-      step o p ps true e = rw e
-      step o p ps false e = rw e (simp emits-append)
+      step : (w : Listing) (p : Pred) (ps : List Pred) (t : Bool) → literallyTrue p ≡ t → lists enc w (p ∷ ps) ≡ lists enc (lists enc w (p ∷ [])) ps
+      step w p ps true e = rw e (same-listing refl (omega arith))
+      step w p ps false e = rw e (same-listing (simp emits-append) (omega arith))
 
-  pub vars-steps : Steps [] _∷_ (λ (o : Output) (f : ForAll). emits o (write-binder enc (f .binder))) (λ o fs. emits o (varsText enc fs))
-  unfolding emits varsText
+  pub vars-steps : Steps [] _∷_ (λ (o : Output) (f : ForAll). emits o (ownVar enc f)) (λ o fs. emits o (varsText enc fs))
+  unfolding emits ownVar varsText
   vars-steps = record { none = λ o. refl; step = λ o f fs. emits-append o (write-binder enc (f .binder)) _ }
 
   pub guards-steps : Steps [] _∷_ (λ (o : Output) (f : ForAll). emits o (ownText enc f)) (λ o fs. emits o (guardsText enc fs))
@@ -221,24 +217,20 @@ module _ (enc : Encoder) where
     step = λ o f fs. rw (preds-append, spaced-append) (emits-append o (spaced (write-preds enc (kept (f .preds)))) (spaced (write-preds enc (guardsOf fs))));
   }
 
-pub counts-steps : Steps [] _∷_ count counts
-unfolding counts
-counts-steps = record { none = λ n. refl; step = λ n p ps. refl }
-
 -- AT AN OFFSET
 
 -- a ForAll part by part: its binder, the number of its predicates, and these
-record Parts (s : List ℕ) (o : ℕ) (f : ForAll) (z : ℕ) : Type 0 where
-  p : ℕ
-  n : ℕ
-  q : ℕ
-  r : ℕ
-  binds : binder deepest s o ≡ got (f .binder) p
-  counted-by : number 2 s p ≡ got n q
-  holds : many [] _∷_ (decPred deepest) n s q ≡ got (f .preds) r
-  zero-is : z ≡ 0
+pub record Parts (s : List ℕ) (o : ℕ) (f : ForAll) (z : ℕ) : Type 0 where
+  pub p : ℕ
+  pub n : ℕ
+  pub q : ℕ
+  pub r : ℕ
+  pub binds : binder deepest s o ≡ got (f .binder) p
+  pub counted-by : number 2 s p ≡ got n q
+  pub holds : many [] _∷_ (decPred deepest) n s q ≡ got (f .preds) r
+  pub zero-is : z ≡ 0
 
-parts : (s : List ℕ) (o : ℕ) (f : ForAll) (z : ℕ) → forAllAt s o ≡ got f z → Parts s o f z
+pub parts : (s : List ℕ) (o : ℕ) (f : ForAll) (z : ℕ) → forAllAt s o ≡ got f z → Parts s o f z
 unfolding forAllAt
 parts s o f z e =
     let i = bind-got (binder deepest s o) _ f z e in
@@ -259,8 +251,8 @@ parts s o f z e =
 
 -- its binder is sent
 pub binder-runs : (enc : Encoder) (s : List ℕ) (o : ℕ) (w w' : Output) (q : ℕ) → Sends (write-binder enc) (binder deepest s o) w w' q
-    → Runs (λ (z : Output) (f : ForAll). emits z (write-binder enc (f .binder))) (forAllAt s o) w w' 0
-unfolding Sends
+    → Sends (ownVar enc) (forAllAt s o) w w' 0
+unfolding Sends ownVar
 binder-runs enc s o w w' q u f z e =
     let i = parts s o f z e in
     (sym (i .zero-is), u (f .binder) (i .p) (i .binds) .1)
@@ -293,29 +285,12 @@ module _ {W : Type 0} (all : W → List Pred → W) (s : List ℕ) (o : ℕ) (w 
         let eq : q ≡ i .q = cc in
         (sym (i .zero-is), k (f .preds) (i .r) (rw (en, eq) (i .holds)))
 
--- COUNTED
+-- what its guards were sent and counted as
+module _ (enc : Encoder) (d : Res ForAll) (b b' : List ℕ) (n n' k k' r : ℕ) (u : Runs (λ v f. lists enc v (f .preds)) d (listing b n k) (listing b' n' k') r) where
+  pub own-sent : Sends (ownText enc) d (output b n) (output b' n') r
+  unfolding Sends ownText lists
+  own-sent f p e = let v = u f p e in (v .0, ap (λ (w : Listing). w .out) (v .1))
 
-module _ (x : Res Pred) (t : Bool) (n : ℕ) (e : t ≡ readTrue x) where
-  pub count-true : t ≡ true → Counts count x n n
-  unfolding Counts
-  count-true h p q e' = rw (sym (e ∙ ap readTrue e') ∙ h)
-
-  pub count-other : (r : ℕ) → t ≡ false → r ≡ min (n + 1) 2 → Counts count x n r
-  unfolding Counts
-  count-other r h g p q e' = g ∙ rw (sym (e ∙ ap readTrue e') ∙ h)
-
--- a predicate is passed, counted or not: the walker ended behind it
-pub count-passed : (x : Res Pred) (v : Walked) (q : ℕ) (f : Fault) (n r : ℕ) → v ≡ walked predFault x → v ≡ walked-is.Next q f → Counts count x n r → Passes count x n r q
-unfolding Passes Counts
-count-passed x v q f n r e e' u p z g =
-    let y : walked-is.Next q f ≡ walked-is.Next z (predFault p) = sym e' ∙ e ∙ ap (walked predFault) g in
-    (cc, u p z g)
-
-pub count-refused : (x : Res Pred) (v : Walked) (n r at k : ℕ) → v ≡ walked predFault x → v ≡ walked-is.Refused k → Passes count x n r at
-unfolding Passes
-count-refused x v n r at k e e' = walk-refused count predFault x v n r at k e e'
-
--- the number alone
-pub runs-counts : {A : Type 0} (run : ℕ → A → ℕ) (x : Res A) (n r p : ℕ) → Runs run x n r p → Counts run x n r
-unfolding Counts
-runs-counts run x n r p u a q e = u a q e .1
+  pub own-counted : (f : ForAll) (p : ℕ) → d ≡ got f p → k' ≡ k + length (kept (f .preds))
+  unfolding lists
+  own-counted f p e = ap (λ (w : Listing). w .count) (u f p e .1)

@@ -1,3 +1,4 @@
 pub mod Guards
 pub mod Asserts
 pub mod Keeping
+pub mod Short

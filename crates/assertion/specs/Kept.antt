@@ -1,47 +1,75 @@
--- What is kept of a path: its binders and its guards as they are written, in one text, for the heads under it.
-use Prim.Native.Nat.{ℕ, _-_, _≤_}
-use mathlib.Core.Bool.{true}
-use mathlib.Core.List.{List, [], _∷_, _++_}
+-- W-202. What is kept of the ForAlls around a place: how long the text of their binders is and that of their guards, and how many guards there
+-- are; and in a lent text these texts themselves, as far as there is room.
+use Prim.Native.Nat.{ℕ, _+_, _-_, _/_, _≤_}
+use mathlib.Core.Bool.{Bool, _&&_}
+use mathlib.Core.List.{List, []}
 use mathlib.Core.Path.{_≡_}
+use lib.Dec.{leb}
 use lib.ListN.{length, take, drop}
-use Rattle.task.specs.Decode.{Res, got}
-use Rattle.horn_text.specs.Clauses.{ForAll}
-use Rattle.smt_sort.specs.Section.{encoderIn}
-use Rattle.output.specs.Emit.{Output, Sends}
+use lib.Seq.{sets}
 use Rattle.task.specs.Ast.{Pred}
+use Rattle.task.specs.Decode.{Res, got}
+use Rattle.smt_text.specs.Encoder.{Encoder}
+use Rattle.horn_text.specs.Clauses as clauses
+use Rattle.horn_text.specs.Clauses.{ForAll, guardsOf}
+use Rattle.smt_sort.specs.Section.{encoderIn}
+use Rattle.output.specs.Emit.{Output, output, Sends}
 use Rattle.assertion.specs.declared.Kept as code
-use Rattle.assertion.specs.Under.{onPath, varsText, guardsText, countAll, assertText}
+use Rattle.assertion.specs.Under.{forAllAt, onPath, varsText, ownVar, ownText, guardsText, assertText}
 
--- the most bytes that the text has
-abbrev pub room : ℕ
-room = 65536
+-- THE THREE NUMBERS
 
--- what is kept of the binders, at the text's start
+-- the binders and the guards of ForAlls measured afresh
+abbrev pub measured : Encoder → List ForAll → code.Kept
+measured enc fs = record { vars = length (varsText enc fs); guards = length (guardsText enc fs); count = length (guardsOf fs) }
+
+-- those of one ForAll
+abbrev pub measuredOwn : Encoder → ForAll → code.Kept
+measuredOwn enc f = record { vars = length (ownVar enc f); guards = length (ownText enc f); count = length (clauses.kept (f .preds)) }
+
+-- going down, what a ForAll has is added
+abbrev pub plus : code.Kept → code.Kept → code.Kept
+plus k own = record { vars = k .vars + own .vars; guards = k .guards + own .guards; count = k .count + own .count }
+
+-- coming up, it is taken back
+abbrev pub minus : code.Kept → code.Kept → code.Kept
+minus k own = record { vars = k .vars - own .vars; guards = k .guards - own .guards; count = k .count - own .count }
+
+-- none of the numbers is larger than that of another
+pub record Within (k k' : code.Kept) : Type 0 where
+  pub vars-within : k .vars ≤ k' .vars
+  pub guards-within : k .guards ≤ k' .guards
+  pub count-within : k .count ≤ k' .count
+
+-- THE TEXT
+
+-- the half for binders, and that for guards
+abbrev pub varsHalf : List ℕ → List ℕ
+varsHalf text = take (length text / 2) text
+
+abbrev pub guardsHalf : List ℕ → List ℕ
+guardsHalf text = drop (length text / 2) text
+
+-- both halves of a text of such a size have room for what is kept
+abbrev pub fits : ℕ → code.Kept → Bool
+fits size k = leb (k .vars) (size / 2) && leb (k .guards) (size - size / 2)
+
+-- what is kept of the binders, and of the guards
 abbrev pub varsIn : List ℕ → code.Kept → List ℕ
-varsIn text kept = take (kept .vars) text
+varsIn text k = take (k .vars) (varsHalf text)
 
--- what is kept of the guards, from the middle on
 abbrev pub guardsIn : List ℕ → code.Kept → List ℕ
-guardsIn text kept = take (kept .guards - kept .middle) (drop (kept .middle) text)
+guardsIn text k = take (k .guards) (guardsHalf text)
 
--- what is kept lies in the text
-pub record Fits (text : List ℕ) (kept : code.Kept) : Type 0 where
-  pub short : length text ≤ room
-  pub inside-vars : kept .vars ≤ kept .middle
-  pub inside-guards : kept .middle ≤ kept .guards
-  pub inside : kept .guards ≤ length text
+-- a half begins with a text for which it has room
+abbrev pub Begins : List ℕ → List ℕ → Type 0
+Begins half t = length t ≤ length half → take (length t) half ≡ t
 
--- these ForAlls have such binders and guards, and so many guards, up to 2
-pub record Holds (s enc text : List ℕ) (kept : code.Kept) (fs : List ForAll) : Type 0 where
-  pub vars-are : varsIn text kept ≡ varsText (encoderIn s enc) fs
-  pub guards-are : guardsIn text kept ≡ guardsText (encoderIn s enc) fs
-  pub count-is : kept .count ≡ countAll 0 fs
-
--- The number of guards is that of the path; where the text had room, so are binders and guards.
-pub record Keeps (s enc path text : List ℕ) (kept : code.Kept) : Type 0 where
-  pub fits : Fits text kept
-  pub counted : (fs : List ForAll) (q : ℕ) → onPath s path ≡ got fs q → kept .count ≡ countAll 0 fs
-  pub holds : kept .has ≡ true → (fs : List ForAll) (q : ℕ) → onPath s path ≡ got fs q → Holds s enc text kept fs
+-- What is kept of ForAlls. The numbers are equal to those of the ForAlls' binders and guards measured afresh, whatever their size.
+pub record Keeps (enc : Encoder) (fs : List ForAll) (text : List ℕ) (kept : code.Kept) : Type 0 where
+  pub measures : kept ≡ measured enc fs
+  pub vars : Begins (varsHalf text) (varsText enc fs)
+  pub guards : Begins (guardsHalf text) (guardsText enc fs)
 
 -- The kept bytes are the same before and after.
 pub record Stays (kept : code.Kept) (text text' : List ℕ) : Type 0 where
@@ -49,14 +77,34 @@ pub record Stays (kept : code.Kept) (text text' : List ℕ) : Type 0 where
   pub same-vars : varsIn text' kept ≡ varsIn text kept
   pub same-guards : guardsIn text' kept ≡ guardsIn text kept
 
--- What was kept before is kept still, and what is kept now is that of a path with one offset more.
-pub record Extends (s enc : List ℕ) (at : ℕ) (kept kept' : code.Kept) (text text' : List ℕ) : Type 0 where
-  pub stays : Stays kept text text'
-  pub more-vars : kept .vars ≤ kept' .vars
-  pub same-middle : kept' .middle ≡ kept .middle
-  pub more-guards : kept .guards ≤ kept' .guards
-  pub keeps : (path : List ℕ) → Keeps s enc path text kept → Keeps s enc (path ++ at ∷ []) text' kept'
+-- Where a ForAll stands at an offset, a text of it was measured, and put behind the first n bytes of a half as far as there was room.
+unfoldable pub Stores : (ForAll → List ℕ) → Res ForAll → ℕ → List ℕ → List ℕ → ℕ → Type 0
+Stores text d n half half' r = (f : ForAll) (p : ℕ) → d ≡ got f p → (r ≡ length (text f)) × (half' ≡ sets half n (text f))
 
--- The assertion of a head under the ForAlls of which all is kept was sent.
+-- Its guards were counted.
+unfoldable pub Counts : Res ForAll → ℕ → Type 0
+Counts d r = (f : ForAll) (p : ℕ) → d ≡ got f p → r ≡ length (clauses.kept (f .preds))
+
+-- All that it has was measured and put behind what is kept.
+pub record Extended (enc : Encoder) (f : ForAll) (kept : code.Kept) (text text' : List ℕ) (own : code.Kept) : Type 0 where
+  pub measures : own ≡ measuredOwn enc f
+  pub size : length text' ≡ length text
+  pub vars : varsHalf text' ≡ sets (varsHalf text) (kept .vars) (ownVar enc f)
+  pub guards : guardsHalf text' ≡ sets (guardsHalf text) (kept .guards) (ownText enc f)
+
+unfoldable pub Extends : List ℕ → List ℕ → ℕ → code.Kept → List ℕ → List ℕ → code.Kept → Type 0
+Extends s enc at kept text text' own = (f : ForAll) (p : ℕ) → forAllAt s at ≡ got f p → Extended (encoderIn s enc) f kept text text' own
+
+-- HEADS
+
+-- So many guards has a path.
+unfoldable pub Numbers : List ℕ → List ℕ → ℕ → Type 0
+Numbers s path n = (fs : List ForAll) (q : ℕ) → onPath s path ≡ got fs q → n ≡ length (guardsOf fs)
+
+-- The assertion of a head under the ForAlls of which the numbers are kept was measured.
+unfoldable pub MeasuredSends : List ℕ → List ℕ → code.Kept → Res Pred → ℕ → ℕ → Type 0
+MeasuredSends s enc kept d len at = (fs : List ForAll) → kept ≡ measured (encoderIn s enc) fs → Sends (assertText (encoderIn s enc) fs) d (output [] 0) (output [] len) at
+
+-- That under the ForAlls of which the text is kept was sent.
 unfoldable pub KeptSends : List ℕ → List ℕ → List ℕ → code.Kept → Res Pred → Output → Output → ℕ → Type 0
-KeptSends s enc text kept d o o' at = (fs : List ForAll) → Holds s enc text kept fs → Sends (assertText (encoderIn s enc) fs) d o o' at
+KeptSends s enc text kept d o o' at = (fs : List ForAll) → Keeps (encoderIn s enc) fs text kept → Sends (assertText (encoderIn s enc) fs) d o o' at

@@ -1,5 +1,5 @@
 -- What stands at the offsets of a path, and what the writers of an assertion send for it.
-use Prim.Native.Nat.{ℕ, _+_, min}
+use Prim.Native.Nat.{ℕ, _+_}
 use mathlib.Core.Bool.{Bool, cond, _&&_}
 use mathlib.Core.List.{List, [], _∷_, _++_}
 use mathlib.Core.Path.{_≡_}
@@ -7,15 +7,13 @@ use lib.Dec.{leb, ltb, eqb}
 use lib.ListN.{length, getD}
 use Rattle.task.specs.Ast.{Pred}
 use Rattle.task.specs.Decode.{Res, got, bind, counted, binder, decPred, deepest}
-use Rattle.task.specs.Task.{literallyTrue}
 use Rattle.smtlib.specs.Lexicon.{bytes}
 use Rattle.smt_text.specs.Encoder.{Encoder}
-use Rattle.smt_text.specs.Text.{spaced, write-binders, write-pred}
+use Rattle.smt_text.specs.Text.{spaced, write-binder, write-binders, write-pred}
 use Rattle.horn_text.specs.Clauses.{ForAll, kept, bindersOf, guardsOf, clauseOf}
 use Rattle.horn_text.specs.Script.{join, write-preds, write-assert}
-use Rattle.task.specs.Run.{Runs}
 use Rattle.assertion.specs.declared.Form.{Form}
-use Rattle.output.specs.Emit.{Output, Sends}
+use Rattle.output.specs.Emit.{Output, output, emits, Sends}
 
 -- the ForAll whose name stands at an offset; where it ends does not matter
 unfoldable pub forAllAt : List ℕ → ℕ → Res ForAll
@@ -31,6 +29,10 @@ onPath s (o ∷ os) = bind (forAllAt s o) (λ f p. bind (onPath s os) (λ fs q. 
 unfoldable pub varsText : Encoder → List ForAll → List ℕ
 varsText enc fs = join (write-binders enc (bindersOf fs))
 
+-- the binder of one
+unfoldable pub ownVar : Encoder → ForAll → List ℕ
+ownVar enc f = write-binder enc (f .binder)
+
 -- predicates that are not literally true, a space before each
 unfoldable pub keptText : Encoder → List Pred → List ℕ
 keptText enc ps = spaced (write-preds enc (kept ps))
@@ -43,31 +45,17 @@ ownText enc f = keptText enc (f .preds)
 unfoldable pub guardsText : Encoder → List ForAll → List ℕ
 guardsText enc fs = spaced (write-preds enc (guardsOf fs))
 
--- one that is counted, up to 2
-abbrev pub count : ℕ → Pred → ℕ
-count n p = cond (literallyTrue p) n (min (n + 1) 2)
+-- what was sent, and how many guards were sent
+pub record Listing : Type 0 where
+  pub out : Output
+  pub count : ℕ
 
--- the guards among predicates are counted, up to 2
-unfoldable pub counts : ℕ → List Pred → ℕ
-counts n [] = n
-counts n (p ∷ ps) = counts (count n p) ps
+abbrev pub listing : List ℕ → ℕ → ℕ → Listing
+listing b n k = record { out = output b n; count = k }
 
--- those of a ForAll
-abbrev pub countOwn : ℕ → ForAll → ℕ
-countOwn n f = counts n (f .preds)
-
--- those of a path
-unfoldable pub countAll : ℕ → List ForAll → ℕ
-countAll n [] = n
-countAll n (f ∷ fs) = countAll (countOwn n f) fs
-
--- Where a piece was decoded, it was run: where it ends does not matter.
-unfoldable pub Counts : {A : Type 0} → (ℕ → A → ℕ) → Res A → ℕ → ℕ → Type 0
-Counts {A} run d n r = (a : A) (p : ℕ) → d ≡ got a p → r ≡ run n a
-
--- Where a piece was decoded, the walker ended behind it and it was run.
-unfoldable pub Passes : {A : Type 0} → (ℕ → A → ℕ) → Res A → ℕ → ℕ → ℕ → Type 0
-Passes run d n r at = Runs run d n r at
+-- the guards among predicates are sent, a space before each, and counted
+unfoldable pub lists : Encoder → Listing → List Pred → Listing
+lists enc w ps = record { out = emits (w .out) (keptText enc ps); count = w .count + length (kept ps) }
 
 -- the bytes of Boolean true as a predicate
 abbrev pub trueAt : List ℕ → ℕ → Bool

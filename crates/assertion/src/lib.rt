@@ -1,42 +1,42 @@
-// The writer of one assertion, `write_assert` of `smt_horn.rs`, from the text that is kept of the ForAlls around the head, or from their
-// offsets where that text had no room. The writers read any bytes: what they send is told for a path whose offsets are those of ForAlls, and
-// for a head that decodes.
+// The writer of one assertion, `write_assert` of `smt_horn.rs`. The lengths of what the ForAlls around the head have are kept, so an assertion
+// is measured from them and the head alone. It is written from the text that is kept of the ForAlls, or from their offsets where that text has
+// no room. The writers read any bytes: what they send is told for a path whose offsets are those of ForAlls, and for a head that decodes.
 use output::Out;
 use path::Path;
 use smt_word::Sent;
 use task::Number;
 use task_check::Walked;
-ghost use mathlib.Core.Bool.{true, false};
+ghost use mathlib.Core.Bool.{true};
 ghost use mathlib.Core.Path.{_≡_};
 ghost use mathlib.Core.List.{[], _∷_, _++_};
-ghost use Prim.Native.Nat.{_+_, min};
+ghost use Prim.Native.Nat.{_+_, _≤_, _<_};
+ghost use lib.ListN.{length};
 ghost use Rattle.task.specs.Decode.{many, decPred, deepest};
+ghost use Rattle.task.specs.Run.{Runs};
 ghost use Rattle.path.specs.Offsets.{entries, Leaves};
-ghost use Rattle.output.specs.Emit.{output, emits, Sends};
+ghost use Rattle.output.specs.Emit.{output, most, emits, Sends};
 ghost use Rattle.names.specs.Table.{Chained};
 ghost use Rattle.smt_sort.specs.Section.{encoderIn};
-ghost use Rattle.assertion.specs.Under.{forAllAt, onPath, varsText, keptText, ownText, guardsText, count as countOne, counts, countOwn, countAll, Counts, Passes, trueAt, kvarAt, formOf, openingText, impliesText, groupText, ungroupText, beforeText, behindText, endText, headText, assertText, HeadSends};
-ghost use Rattle.assertion.specs.Kept.{Fits, Extends, guardsIn, KeptSends};
+ghost use Rattle.assertion.specs.Under.{forAllAt, onPath, varsText, ownVar, ownText, guardsText, listing, lists, trueAt, kvarAt, formOf, openingText, impliesText, groupText, ungroupText, beforeText, behindText, endText, headText, HeadSends, assertText};
+ghost use Rattle.assertion.specs.Kept.{plus as plusIs, minus as minusIs, Within, fits as fitsIn, guardsIn, Stores, Counts, Extends, Numbers, MeasuredSends, KeptSends};
 
-// Where a predicate ends, and the number of guards then.
-pub struct Tally {
-    pub at: usize,
-    pub count: u64,
+// Guards in a row: where the next predicate stands, what was sent, and how many guards they are.
+struct Listed {
+    at: usize,
+    out: Out,
+    count: u64,
 }
 
-// How an assertion is put together: for a KVar or for an expression, with binders or without, and the number of its guards, up to 2.
+// How an assertion is put together: for a KVar or for an expression, with binders or without, and the number of its guards.
 pub struct Form {
     pub kvar: bool,
     pub bound: bool,
     pub count: u64,
 }
 
-// What is kept of a path for the heads under it: the number of its guards, up to 2, and in a lent text its binders, up to `vars`, and its
-// guards, from `middle` up to `guards`. Where `has` is false the text had no room; the bytes then are those of a path around it.
+// What is kept of the ForAlls around a place: how long the text of their binders is and that of their guards, and how many guards there are.
 pub struct Kept {
-    pub has: bool,
     pub vars: usize,
-    pub middle: usize,
     pub guards: usize,
     pub count: u64,
 }
@@ -76,57 +76,67 @@ fn is_true_at(s: &[u8], at: usize) -> bool
     s[at + 2] == 1
 }
 
-// Sends the predicate at a position with a space before it, unless it is literally true.
-fn write_guard(s: &[u8], at: usize, enc: &[u16], buf: &mut [u8], out: Out) -> Sent
-    requires { ⌜ Chained (now s) (now enc) ⌝ }
-    ensures { λ r. ⌜ Sends (λ p. keptText (encoderIn (now (s .entry)) (now (enc .entry))) (p ∷ [])) (decPred deepest (now (s .entry)) at) (output (now (buf .entry)) (out .len)) (output (now (buf .exit)) (r .out .len)) (r .at) ⌝ }
+// Sends the next predicate with a space before it and counts it, unless it is literally true.
+fn write_guard(s: &[u8], from: Listed, enc: &[u16], buf: &mut [u8]) -> Listed
+    requires { ⌜ Chained (now s) (now enc) × (from .count < most) ⌝ }
+    ensures { λ r. ⌜ Runs (λ w p. lists (encoderIn (now (s .entry)) (now (enc .entry))) w (p ∷ [])) (decPred deepest (now (s .entry)) (from .at)) (listing (now (buf .entry)) (from .out .len) (from .count)) (listing (now (buf .exit)) (r .out .len) (r .count)) (r .at) ⌝ }
+    ensures { λ r. ⌜ r .count ≤ from .count + 1 ⌝ }
 {
+    let at = from.at;
+    let out = from.out;
+    let count = from.count;
     if is_true_at(s, at) {
-        return Sent { at: at + 3, out };
+        return Listed {
+            at: at + 3,
+            out,
+            count,
+        };
     }
     if task_check::is_literally_true(s, at, 256) {
         let walked = task_check::check_pred(s, at, 256);
-        let Walked::Next(p, _) = walked else {
-            return Sent { at, out };
+        let Walked::Next(q, _) = walked else {
+            return from;
         };
-        return Sent { at: p, out };
+        return Listed { at: q, out, count };
     }
     let spaced = out.byte(buf, b' ');
-    smt_fmt::write_pred(s, at, 256, enc, buf, spaced)
+    let one = smt_fmt::write_pred(s, at, 256, enc, buf, spaced);
+    let sent = one.out;
+    Listed {
+        at: one.at,
+        out: sent,
+        count: count + 1,
+    }
 }
 
-// Sends those of n predicates that are not literally true, a space before each.
-fn write_kept(s: &[u8], at: usize, n: u64, enc: &[u16], buf: &mut [u8], out: Out) -> Sent
+// Sends and counts those of n predicates that are not literally true, a space before each.
+fn write_kept(s: &[u8], at: usize, n: u64, enc: &[u16], buf: &mut [u8], out: Out) -> Listed
     requires { ⌜ Chained (now s) (now enc) ⌝ }
-    ensures { λ r. ⌜ Sends (keptText (encoderIn (now (s .entry)) (now (enc .entry)))) (many [] _∷_ (decPred deepest) n (now (s .entry)) at) (output (now (buf .entry)) (out .len)) (output (now (buf .exit)) (r .out .len)) (r .at) ⌝ }
+    ensures { λ r. ⌜ Runs (lists (encoderIn (now (s .entry)) (now (enc .entry)))) (many [] _∷_ (decPred deepest) n (now (s .entry)) at) (listing (now (buf .entry)) (out .len) 0) (listing (now (buf .exit)) (r .out .len) (r .count)) (r .at) ⌝ }
 {
-    let mut p = at;
+    let mut listed = Listed { at, out, count: 0 };
     let mut left = n;
-    let mut sent = out;
     while 0 < left {
-        let one = write_guard(s, p, enc, buf, sent);
-        p = one.at;
-        sent = one.out;
+        listed = write_guard(s, listed, enc, buf);
         left -= 1;
     }
-    Sent { at: p, out: sent }
+    listed
 }
 
-// Sends those of the ForAll at an offset.
-fn write_own_guards(s: &[u8], at: usize, enc: &[u16], buf: &mut [u8], out: Out) -> Out
+// Sends and counts those of the ForAll at an offset.
+fn write_own_guards(s: &[u8], at: usize, enc: &[u16], buf: &mut [u8], out: Out) -> Listed
     requires { ⌜ Chained (now s) (now enc) ⌝ }
-    ensures { λ r. ⌜ Sends (ownText (encoderIn (now (s .entry)) (now (enc .entry)))) (forAllAt (now (s .entry)) at) (output (now (buf .entry)) (out .len)) (output (now (buf .exit)) (r .len)) 0 ⌝ }
+    ensures { λ r. ⌜ Runs (λ w f. lists (encoderIn (now (s .entry)) (now (enc .entry))) w (f .preds)) (forAllAt (now (s .entry)) at) (listing (now (buf .entry)) (out .len) 0) (listing (now (buf .exit)) (r .out .len) (r .count)) 0 ⌝ }
 {
     let binder = task_check::check_binder(s, at, 256);
     let Walked::Next(p, _) = binder else {
-        return out;
+        return Listed { at, out, count: 0 };
     };
     let number = task::number_at(s, p, 2);
     let Number::Value(n, q) = number else {
-        return out;
+        return Listed { at, out, count: 0 };
     };
-    let kept = write_kept(s, q, n, enc, buf, out);
-    kept.out
+    write_kept(s, q, n, enc, buf, out)
 }
 
 // Sends those of the path.
@@ -138,134 +148,95 @@ fn write_each_guard(s: &[u8], path: Path, enc: &[u16], buf: &mut [u8], out: Out)
     let mut sent = out;
     while i < path.depth {
         let at = path::position(path.offsets[i]);
-        sent = write_own_guards(s, at, enc, buf, sent);
+        let own = write_own_guards(s, at, enc, buf, sent);
+        sent = own.out;
         i += 1;
     }
     sent
 }
 
-// One more, up to 2.
-fn one_more(n: u64) -> u64
-    ensures { λ r. ⌜ r ≡ min (n + 1) 2 ⌝ }
-{
-    if n == 0 {
-        return 1;
-    }
-    2
-}
-
-// Counts the predicate at a position unless it is literally true, up to 2.
-fn count_guard(s: &[u8], at: usize, have: u64) -> Tally
-    ensures { λ r. ⌜ Passes countOne (decPred deepest (now (s .entry)) at) have (r .count) (r .at) ⌝ }
-{
-    if is_true_at(s, at) {
-        return Tally {
-            at: at + 3,
-            count: have,
-        };
-    }
-    let walked = task_check::check_pred(s, at, 256);
-    let Walked::Next(q, _) = walked else {
-        return Tally { at, count: have };
-    };
-    if task_check::is_literally_true(s, at, 256) {
-        return Tally { at: q, count: have };
-    }
-    Tally {
-        at: q,
-        count: one_more(have),
-    }
-}
-
-// Counts those of n predicates that are not literally true, up to 2.
-fn count_kept(s: &[u8], at: usize, n: u64, have: u64) -> u64
-    ensures { λ r. ⌜ Counts counts (many [] _∷_ (decPred deepest) n (now (s .entry)) at) have r ⌝ }
-{
-    let mut p = at;
-    let mut left = n;
-    let mut sum = have;
-    while 0 < left {
-        let one = count_guard(s, p, sum);
-        p = one.at;
-        sum = one.count;
-        left -= 1;
-    }
-    sum
-}
-
-// Counts those of the ForAll at an offset.
-fn count_own_guards(s: &[u8], at: usize, have: u64) -> u64
-    ensures { λ r. ⌜ Counts countOwn (forAllAt (now (s .entry)) at) have r ⌝ }
-{
-    let binder = task_check::check_binder(s, at, 256);
-    let Walked::Next(p, _) = binder else {
-        return have;
-    };
-    let number = task::number_at(s, p, 2);
-    let Number::Value(n, q) = number else {
-        return have;
-    };
-    count_kept(s, q, n, have)
-}
-
 impl Kept {
-    // Of the path without ForAlls; the guards of a longer one will stand from the middle on.
-    pub fn start(middle: usize) -> Kept
-        ensures { λ r. ⌜ (r .has ≡ true) × (r .vars ≡ 0) × (r .middle ≡ middle) × (r .guards ≡ middle) × (r .count ≡ 0) ⌝ }
+    // Of no ForAlls.
+    pub fn none() -> Kept
+        ensures { λ r. ⌜ (r .vars ≡ 0) × (r .guards ≡ 0) × (r .count ≡ 0) ⌝ }
     {
         Kept {
-            has: true,
             vars: 0,
-            middle,
-            guards: middle,
+            guards: 0,
             count: 0,
         }
     }
 
-    // Of a longer path the number of guards alone.
-    fn counted(self, count: u64) -> Kept
-        ensures { λ r. ⌜ (r .has ≡ false) × (r .vars ≡ self .vars) × (r .middle ≡ self .middle) × (r .guards ≡ self .guards) × (r .count ≡ count) ⌝ }
+    // With what a ForAll has, going down.
+    pub fn plus(self, own: Kept) -> Kept
+        requires { ⌜ (self .vars + own .vars ≤ most) × (self .guards + own .guards ≤ most) × (self .count + own .count ≤ most) ⌝ }
+        ensures { λ r. ⌜ r ≡ plusIs self own ⌝ }
     {
         Kept {
-            has: false,
-            vars: self.vars,
-            middle: self.middle,
-            guards: self.guards,
-            count,
+            vars: self.vars + own.vars,
+            guards: self.guards + own.guards,
+            count: self.count + own.count,
         }
+    }
+
+    // Without it, coming up.
+    pub fn minus(self, own: Kept) -> Kept
+        requires { ⌜ Within own self ⌝ }
+        ensures { λ r. ⌜ r ≡ minusIs self own ⌝ }
+    {
+        Kept {
+            vars: self.vars - own.vars,
+            guards: self.guards - own.guards,
+            count: self.count - own.count,
+        }
+    }
+
+    // Whether a text has room for the binders in its first half and for the guards in the other.
+    pub fn fits(self, size: usize) -> bool
+        ensures { λ r. ⌜ r ≡ fitsIn size self ⌝ }
+    {
+        let half = size / 2;
+        if half < self.vars {
+            return false;
+        }
+        self.guards <= size - half
     }
 }
 
-// Keeps the ForAll at an offset behind what is kept of the path around it, if there is room.
-pub fn extend(s: &[u8], at: usize, enc: &[u16], text: &mut [u8], kept: Kept) -> Kept
-    requires { ⌜ Chained (now s) (now enc) ⌝ }
-    requires { ⌜ Fits (now text) kept ⌝ }
-    ensures { λ r. ⌜ Extends (now (s .entry)) (now (enc .entry)) at kept r (now (text .entry)) (now (text .exit)) ⌝ }
+// Puts the binder of the ForAll at an offset behind the first n bytes of a text, as far as there is room for it, and tells how long it is.
+fn keep_binder(s: &[u8], at: usize, enc: &[u16], text: &mut [u8], n: usize) -> usize
+    requires { ⌜ Chained (now s) (now enc) × (length (now s) < 65536) ⌝ }
+    ensures { λ r. ⌜ Stores (ownVar (encoderIn (now (s .entry)) (now (enc .entry)))) (forAllAt (now (s .entry)) at) n (now (text .entry)) (now (text .exit)) r ⌝ }
 {
-    let count = count_own_guards(s, at, kept.count);
-    if !kept.has {
-        return kept.counted(count);
-    }
-    let v = kept.vars;
-    let m = kept.middle;
-    let g = kept.guards;
-    let vars_left = m - v;
-    let guards_left = text.len() - g;
-    let binder = smt_sort::write_binder(s, at, 256, enc, &mut text[v..m], Out::new());
-    let own = write_own_guards(s, at, enc, &mut text[g..], Out::new());
-    let sent = binder.out;
-    if vars_left < sent.len {
-        return kept.counted(count);
-    }
-    if guards_left < own.len {
-        return kept.counted(count);
-    }
+    let start = output::least(n, text.len());
+    let sent = smt_sort::write_binder(s, at, 256, enc, &mut text[start..], Out::new());
+    let out = sent.out;
+    out.len
+}
+
+// The same with its guards.
+fn keep_guards(s: &[u8], at: usize, enc: &[u16], text: &mut [u8], n: usize) -> Listed
+    requires { ⌜ Chained (now s) (now enc) × (length (now s) < 65536) ⌝ }
+    ensures { λ r. ⌜ Stores (ownText (encoderIn (now (s .entry)) (now (enc .entry)))) (forAllAt (now (s .entry)) at) n (now (text .entry)) (now (text .exit)) (r .out .len) ⌝ }
+    ensures { λ r. ⌜ Counts (forAllAt (now (s .entry)) at) (r .count) ⌝ }
+{
+    let start = output::least(n, text.len());
+    write_own_guards(s, at, enc, &mut text[start..], Out::new())
+}
+
+// Measures what the ForAll at an offset has, and keeps as much of its text as there is room for, behind that of the ForAlls around it.
+pub fn extend(s: &[u8], at: usize, enc: &[u16], text: &mut [u8], kept: Kept) -> Kept
+    requires { ⌜ Chained (now s) (now enc) × (length (now s) < 65536) ⌝ }
+    ensures { λ r. ⌜ Extends (now (s .entry)) (now (enc .entry)) at kept (now (text .entry)) (now (text .exit)) r ⌝ }
+{
+    let half = text.len() / 2;
+    let vars = keep_binder(s, at, enc, &mut text[..half], kept.vars);
+    let own = keep_guards(s, at, enc, &mut text[half..], kept.guards);
+    let sent = own.out;
     Kept {
-        has: true,
-        vars: v + sent.len,
-        middle: m,
-        guards: g + own.len,
-        count,
+        vars,
+        guards: sent.len,
+        count: own.count,
     }
 }
 
@@ -399,21 +370,37 @@ fn write_head(
     }
 }
 
-// Sends the guards from what is kept of them: `true` for none before a KVar, one alone, more under `and`. Before an expression all stand
-// under the `and` that is closed behind it.
+// Sends the guards from the text that is kept of them: `true` for none before a KVar, one alone, more under `and`. Before an expression all
+// stand under the `and` that is closed behind it.
 fn write_guard_conjunction(text: &[u8], kept: Kept, kvar: bool, buf: &mut [u8], out: Out) -> Out
-    requires { ⌜ Fits (now text) kept ⌝ }
+    requires { ⌜ fitsIn (length (now text)) kept ≡ true ⌝ }
     ensures { λ r. ⌜ output (now (buf .exit)) (r .len) ≡ emits (output (now (buf .entry)) (out .len)) (groupText kvar (kept .count) ++ (guardsIn (now (text .entry)) kept ++ ungroupText kvar (kept .count))) ⌝ }
 {
-    let m = kept.middle;
-    let g = kept.guards;
+    let half = text.len() / 2;
+    let end = half + kept.guards;
     let count = kept.count;
     let opened = open_guards(kvar, count, buf, out);
-    let listed = opened.bytes(buf, &text[m..g]);
+    let listed = opened.bytes(buf, &text[half..end]);
     close_guards(kvar, count, buf, listed)
 }
 
-// Sends the assertion of the head at a position, inside the ForAlls of which binders and guards are kept.
+// Measures the assertion of the head at a position, inside the ForAlls of which the lengths are kept.
+pub fn measure_assert(s: &[u8], at: usize, levels: usize, kept: Kept, enc: &[u16]) -> Sent
+    requires { ⌜ Chained (now s) (now enc) ⌝ }
+    ensures { λ r. ⌜ MeasuredSends (now (s .entry)) (now (enc .entry)) kept (decPred levels (now (s .entry)) at) (r .out .len) (r .at) ⌝ }
+{
+    let mut none = [0u8; 0];
+    let form = form_of(s, at, kept.vars, kept.count);
+    let opened = open_assert(form.bound, &mut none, Out::new());
+    let listed = opened.counted(kept.vars);
+    let implied = open_implication(form.bound, &mut none, listed);
+    let grouped = open_guards(form.kvar, form.count, &mut none, implied);
+    let guarded = grouped.counted(kept.guards);
+    let closed = close_guards(form.kvar, form.count, &mut none, guarded);
+    write_head(s, at, levels, form, enc, &mut none, closed)
+}
+
+// Sends the assertion of the head at a position, inside the ForAlls of which the text is kept.
 pub fn write_assert(
     s: &[u8],
     at: usize,
@@ -424,7 +411,7 @@ pub fn write_assert(
     buf: &mut [u8],
     out: Out,
 ) -> Sent
-    requires { ⌜ Chained (now s) (now enc) × Fits (now text) kept ⌝ }
+    requires { ⌜ Chained (now s) (now enc) × (fitsIn (length (now text)) kept ≡ true) ⌝ }
     ensures { λ r. ⌜ KeptSends (now (s .entry)) (now (enc .entry)) (now (text .entry)) kept (decPred levels (now (s .entry)) at) (output (now (buf .entry)) (out .len)) (output (now (buf .exit)) (r .out .len)) (r .at) ⌝ }
 {
     let v = kept.vars;
@@ -436,7 +423,7 @@ pub fn write_assert(
     write_head(s, at, levels, form, enc, buf, guarded)
 }
 
-// Sends the assertion of the head at a position, inside the ForAlls of the path, of which only the number of guards is kept.
+// Sends the assertion of the head at a position, inside the ForAlls of the path, from their offsets and the number of their guards.
 pub fn write_long_assert(
     s: &[u8],
     at: usize,
@@ -448,7 +435,7 @@ pub fn write_long_assert(
     out: Out,
 ) -> Sent
     requires { ⌜ Chained (now s) (now enc) × Leaves path 0 ⌝ }
-    requires { ⌜ Counts countAll (onPath (now s) (entries path)) 0 count ⌝ }
+    requires { ⌜ Numbers (now s) (entries path) count ⌝ }
     ensures { λ r. ⌜ HeadSends (assertText (encoderIn (now (s .entry)) (now (enc .entry)))) (onPath (now (s .entry)) (entries path)) (decPred levels (now (s .entry)) at) (output (now (buf .entry)) (out .len)) (output (now (buf .exit)) (r .out .len)) (r .at) ⌝ }
 {
     let form = form_of(s, at, path.depth, count);

@@ -4,12 +4,15 @@ use mathlib.Core.Bool.{Bool, true, false, not, _&&_}
 use mathlib.Core.List.{List, [], _∷_, _++_, map-append}
 use Prim.Native.Nat.{ℕ, zero, suc, _+_, _-_, _<_, _≤_, min}
 use native.Mathlib.Omega.{arith}
-use lib.ListN.{length, take, drop}
+use mir.Val.{Fits}
+use mir.Syntax.{w8}
+use lib.ListN.{length, take, drop, getD, length-append}
+use borrow.Author.Tests.{ne-eqb}
 use Rattle.smtlib.proofs.Bools.{clash}
 use Rattle.task.specs.declared.Fault.{Fault}
 use Rattle.task.specs.declared.ConstraintNode.{ConstraintNode}
 use Rattle.task.specs.declared.ConstraintNode.the-variants as constraint-node
-use Rattle.task.specs.Ast.{Sort, Pred, Constraint, Constraints}
+use Rattle.task.specs.Ast.{Sort, Binder, Pred, Constraint, Constraints}
 use Rattle.task.specs.Decode.{Res, got, bind, number, many, counted, name, binder, decSort, decPred, decConstraint, deepest}
 use Rattle.task.specs.Fault.{predFault}
 use Rattle.task.specs.Task.{literallyTrue}
@@ -21,9 +24,10 @@ use Rattle.task_check.specs.declared.Walked.{Walked}
 use Rattle.task_check.specs.declared.Walked.the-variants as walked-is
 use Rattle.task_check.specs.Walk.{walked, readTrue}
 use Rattle.task_check.proofs.Rows.{refused-is, next-is}
+use Rattle.path.specs.declared.Path.{Path}
 use Rattle.path.specs.Offsets.{entries}
-use Rattle.path.proofs.Entries.{leaves-fewer, leaves-pushed}
-use Rattle.constraint_check.specs.Around.{isHead, headerFault, header, forAll}
+use Rattle.path.proofs.Entries.{depth-is, leaves-fewer, leaves-pushed}
+use Rattle.constraint_check.specs.Around.{isHead, Header, headerFault, header, forAll}
 use Rattle.constraint_check.proofs.Names.{head-stands, name-inside}
 use Rattle.constraint_check.proofs.Constraints.{head-node}
 use Rattle.smt_text.specs.Encoder.{Encoder}
@@ -34,16 +38,17 @@ use Rattle.output.specs.Emit.{output, most}
 use Rattle.task.proofs.Running.{runs-refused, runs-end, runs-then, Steps, Owing, owing-start, owing-more, owing-end}
 use Rattle.assertion.specs.declared.Kept.{Kept}
 use Rattle.assertion.specs.Under.{forAllAt, onPath, assertText, HeadSends}
-use Rattle.assertion.specs.Kept.{Keeps, Stays, Extends, KeptSends}
+use Rattle.assertion.specs.Kept.{measured, plus, minus, Within, fits, Keeps, Stays, Extended, Extends, Numbers, MeasuredSends, KeptSends}
 use Rattle.smt_sort.specs.Section.{encoderIn}
-use Rattle.assertion.proofs.Keeping.{on-cons, keeps-stays, stays-around}
+use Rattle.assertion.proofs.Asserts.{both, not-set, empty}
+use Rattle.assertion.proofs.Keeping.{measured-plus, within-plus, plus-minus, keeps-stays, keeps-extended, stays-around}
+use Rattle.assertion.proofs.Short.{are-bytes, valid-in, path-short}
 use Rattle.flatten.specs.declared.Range.{Range}
 use Rattle.flatten.specs.declared.Progress.{Progress}
 use Rattle.flatten.specs.declared.Moved.{Moved}
 use Rattle.flatten.specs.declared.Row.{Row}
-use Rattle.flatten.specs.declared.Around.{Around}
 use Rattle.flatten.specs.Parts.{Writing, writing, has, placed, passed, put, puts, Puts, PutsUnder, headParts, clauseParts, memberParts}
-use Rattle.flatten.specs.Walk.{Ready, wanted, Passes, Places, KeptPlaces, PathPlaces, KeptPuts}
+use Rattle.flatten.specs.Walk.{Ready, enough, wanted, Passes, Places, MeasuredPlaces, KeptPlaces, PathPlaces, KeptPuts}
 use Rattle.flatten.proofs.Lending.{part-placed, put-out, puts-append}
 
 -- HEADS
@@ -91,14 +96,6 @@ module _ (r : Range) (n : ℕ) (d : Res Pred) (c : Bool) (e : c ≡ has r n) whe
   not-wanted e' = rw (← e, e')
 
 -- what is written
-both : (a b : Bool) → (a && b) ≡ true → (a ≡ true) × (b ≡ true)
-both true b e = (refl, e)
-both false b e = clash (cc)
-
-not-true : (b : Bool) → not b ≡ true → b ≡ false
-not-true true e = clash (cc)
-not-true false e = refl
-
 module _ (r : Range) (d : Res Pred) (f : Moved) (c : Bool) (e : c ≡ wanted r (f .progress .seen) d) where
   -- what is put is a head's part
   placed-puts : (enc : Encoder) (fs : List ForAll) (w' : Writing) (b : List ℕ) (at : ℕ) → c ≡ true → Places enc fs d (writing (f .progress) b) w' at
@@ -107,13 +104,18 @@ module _ (r : Range) (d : Res Pred) (f : Moved) (c : Bool) (e : c ≡ wanted r (
   placed-puts enc fs w' b at e' w a z k =
       let v = w a z k in
       let h = both (has r (f .progress .seen)) (not (readTrue d)) (sym e ∙ e') in
-      let l : literallyTrue a ≡ false = sym (ap readTrue k) ∙ not-true (readTrue d) (h .1) in
+      let l : literallyTrue a ≡ false = sym (ap readTrue k) ∙ not-set (readTrue d) (h .1) in
       (v .0, v .1 ∙ rw (l, h .0))
 
   module _ (s enc text : List ℕ) (kept : Kept) (b : List ℕ) where
     pub kept-passed : (m : Moved) → c ≡ false → Passes f d m → KeptPuts s enc text kept r d (writing (f .progress) b) (writing (m .progress) b) (m .at)
     unfolding KeptPuts Passes
     kept-passed m e' u fs k = u r (sym e ∙ e') (encoderIn s enc) fs b
+
+    pub measured-wanted : (m : Moved) → c ≡ true → length b ≤ 0 → MeasuredPlaces s enc kept d (writing (f .progress) []) (writing (m .progress) []) (m .at)
+        → KeptPuts s enc text kept r d (writing (f .progress) b) (writing (m .progress) b) (m .at)
+    unfolding KeptPuts MeasuredPlaces
+    measured-wanted m e' h w fs k = rw (empty b h) (placed-puts (encoderIn s enc) fs (writing (m .progress) []) [] (m .at) e' (w fs (k .measures)))
 
     pub kept-wanted : (w' : Writing) (at : ℕ) → c ≡ true → KeptPlaces s enc text kept d (writing (f .progress) b) w' at
         → KeptPuts s enc text kept r d (writing (f .progress) b) w' at
@@ -130,6 +132,13 @@ module _ (r : Range) (d : Res Pred) (f : Moved) (c : Bool) (e : c ≡ wanted r (
     unfolding PutsUnder PathPlaces
     path-wanted w' at e' w fs q g = placed-puts enc fs w' b at e' (w fs q g)
 
+-- the assertion of a head that was measured
+pub measured-placed : (s enc : List ℕ) (kept : Kept) (d : Res Pred) (p p' : Progress) (n at : ℕ) → p' ≡ placed p n → MeasuredSends s enc kept d n at
+    → MeasuredPlaces s enc kept d (writing p []) (writing p' []) at
+unfolding MeasuredSends MeasuredPlaces Places
+measured-placed s enc kept d p p' n at e w fs k =
+    part-placed (assertText (encoderIn s enc) fs) p p' [] d [] 0 0 n at (omega arith) refl (omega arith) (w fs k) e
+
 -- the assertion of a head behind what was written
 module _ (s enc : List ℕ) (d : Res Pred) (p p' : Progress) (xs ys : List ℕ) (start z n at : ℕ) (e : start ≡ min (p .len) (length xs)) (e0 : z ≡ 0) (m : length xs ≤ most)
     (e' : p' ≡ placed p n) where
@@ -143,11 +152,27 @@ module _ (s enc : List ℕ) (d : Res Pred) (p p' : Progress) (xs ys : List ℕ) 
   unfolding HeadSends PathPlaces Places
   path-placed path w fs q g = part-placed (assertText (encoderIn s enc) fs) p p' xs d ys start z n at e e0 m (w fs q g) e'
 
--- where all is kept of a path, its heads are those of the path
-pub kept-under : (s enc text os : List ℕ) (kept : Kept) (r : Range) (d : Res Pred) (w w' : Writing) (at : ℕ) → Keeps s enc os text kept → kept .has ≡ true
-    → KeptPuts s enc text kept r d w w' at → PutsUnder (headParts (encoderIn s enc)) r (onPath s os) d w w' at
+-- where ForAlls stand on a path and all is kept of them, their heads are those of the path
+pub kept-under : (s enc text os : List ℕ) (kept : Kept) (fs : List ForAll) (z : ℕ) (r : Range) (d : Res Pred) (w w' : Writing) (at : ℕ) → onPath s os ≡ got fs z
+    → Keeps (encoderIn s enc) fs text kept → KeptPuts s enc text kept r d w w' at → PutsUnder (headParts (encoderIn s enc)) r (onPath s os) d w w' at
 unfolding KeptPuts PutsUnder
-kept-under s enc text os kept r d w w' at k t u fs q g = u fs (k .holds t fs q g)
+kept-under s enc text os kept fs z r d w w' at e k u gs q g =
+    let n : got fs z ≡ got gs q = sym e ∙ g in
+    let i : fs ≡ gs = cc in
+    rw i at (u fs k)
+
+-- and the number of their guards is that of the path
+pub kept-numbers : (s enc text os : List ℕ) (kept : Kept) (fs : List ForAll) (z : ℕ) → onPath s os ≡ got fs z → Keeps (encoderIn s enc) fs text kept → Numbers s os (kept .count)
+unfolding Numbers
+kept-numbers s enc text os kept fs z e k gs q g =
+    let n : got fs z ≡ got gs q = sym e ∙ g in
+    let i : fs ≡ gs = cc in
+    ap (λ (x : Kept). x .count) (k .measures) ∙ ap (λ (hs : List ForAll). length (guardsOf hs)) i
+
+-- parts that were put, where the walk is behind them
+pub puts-at : {A : Type 0} (parts : List ForAll → A → List (List ℕ)) (r : Range) (path : Res (List ForAll)) (d : Res A) (w : Writing) (b : List ℕ) (m m' : Moved) → m' ≡ m
+    → PutsUnder parts r path d w (writing (m .progress) b) (m .at) → PutsUnder parts r path d w (writing (m' .progress) b) (m' .at)
+puts-at parts r path d w b m m' e u = rw e u
 
 -- A CONSTRAINT BY ITS NODE
 
@@ -179,13 +204,13 @@ module _ (enc : Encoder) (r : Range) (path : Res (List ForAll)) (pr : Progress) 
       unfolding constraintOf headParts clauseParts
       node-pred p m e i u = rw (constraint-at l s at node (constraint-node.Pred p) z h e) (under-map Constraint.pred (decPred (l - 1) s p) (rw (i .0, i .1) at u))
 
-      pub node-conj : (n p : ℕ) (m : Row) → node ≡ constraint-node.Conj n p → (m .from .at ≡ p) × (m .from .progress ≡ pr) × (m .left ≡ n)
-          → PutsUnder (memberParts enc) r path (many Constraints.none Constraints.more (decConstraint (l - 1)) (m .left) s (m .from .at)) (writing (m .from .progress) xs) w' q
+      pub node-conj : (n p : ℕ) (k : Kept) (m : Row) → node ≡ constraint-node.Conj n p → (m .from .moved .at ≡ p) × (m .from .moved .progress ≡ pr) × (m .from .kept ≡ k) × (m .left ≡ n)
+          → PutsUnder (memberParts enc) r path (many Constraints.none Constraints.more (decConstraint (l - 1)) (m .left) s (m .from .moved .at)) (writing (m .from .moved .progress) xs) w' q
           → PutsUnder (clauseParts enc) r path (decConstraint l s at) (writing pr xs) w' q
       unfolding constraintOf memberParts clauseParts flatten-constraint
-      node-conj n p m e i u =
+      node-conj n p k m e i u =
           rw (constraint-at l s at node (constraint-node.Conj n p) z h e)
-          (under-map Constraint.conj (many Constraints.none Constraints.more (decConstraint (l - 1)) n s p) (rw (i .0, i .1, i .2) at u))
+          (under-map Constraint.conj (many Constraints.none Constraints.more (decConstraint (l - 1)) n s p) (rw (i .0, i .1, i .3) at u))
 
       pub node-for-all : (p : ℕ) (m : Moved) → node ≡ constraint-node.ForAll p → To m p pr → PutsUnder (clauseParts enc) r path (forAll (l - 1) s (m .at)) (writing (m .progress) xs) w' q
           → PutsUnder (clauseParts enc) r path (decConstraint l s at) (writing pr xs) w' q
@@ -273,6 +298,12 @@ parts l s at c t e =
       is = cc;
     }
 
+-- an offset before a path
+on-cons : (s os : List ℕ) (o : ℕ) (f : ForAll) (p : ℕ) (fs : List ForAll) (q : ℕ) → forAllAt s o ≡ got f p → onPath s os ≡ got fs q
+    → onPath s (o ∷ os) ≡ got (f ∷ fs) q
+unfolding onPath
+on-cons s os o f p fs q e h = rw (e, h)
+
 -- an offset that is put on a path
 on-snoc : (s os : List ℕ) (at : ℕ) (fs : List ForAll) (q : ℕ) (f : ForAll) → onPath s os ≡ got fs q → forAllAt s at ≡ got f 0
     → onPath s (os ++ at ∷ []) ≡ got (fs ++ f ∷ []) 0
@@ -286,6 +317,22 @@ on-snoc s (o ∷ os) at fs q f e h =
     let z : i .value ∷ j .value ≡ fs = cc in
     on-cons s (os ++ at ∷ []) o (i .value) (i .next) (j .value ++ f ∷ []) 0 (i .first) (on-snoc s os at (j .value) (j .next) f (j .first) h)
     ∙ ap (λ (gs : List ForAll). got (gs ++ f ∷ []) 0) z
+
+-- the ForAll of a header that was read: it is the same with more levels
+header-at : (l : ℕ) (s : List ℕ) (at : ℕ) (b : Binder) (ps : List Pred) (q : ℕ) → l ≤ deepest → header l s at ≡ got (record { binder = b; preds = ps }) q
+    → forAllAt s at ≡ got (record { binder = b; preds = ps }) 0
+unfolding forAllAt
+header-at l s at b ps q d e =
+    let i = bind-got (binder l s at) _ (record { binder = b; preds = ps }) q e in
+    let j = bind-got (counted [] _∷_ (decPred l) s (i .next)) _ (record { binder = b; preds = ps }) q (i .then) in
+    let n = bind-got (number 2 s (i .next)) (λ n p. many [] _∷_ (decPred l) n s p) (j .value) (j .next) (j .first) in
+    let h : _≡_ {A = Header} (record { binder = i .value; preds = j .value }) (record { binder = b; preds = ps }) = cc in
+    rw (
+      deeper .binders l deepest d .agrees s at (i .value) (i .next) (i .first),
+      n .first,
+      deeper .preds l deepest d (n .value) .agrees s (n .next) (j .value) (j .next) (n .then),
+    )
+    (ap (λ (x : Header). got (record { binder = x .binder; preds = x .preds }) 0) h)
 
 -- what is under a ForAll too
 under-one : (enc : Encoder) (r : Range) (w : Writing) (fs : List ForAll) (f : ForAll) (c : Constraint)
@@ -305,17 +352,12 @@ module _ (enc : Encoder) (r : Range) (s os : List ℕ) (l at : ℕ) (pr : Progre
   -- its body is walked with its offset on the path
   pub for-all-puts : (b : ℕ) (x : Fault) (os' : List ℕ) (j : Moved) → l ≤ deepest → v ≡ walked-is.Next b x → os' ≡ os ++ at ∷ [] → To j b pr
       → PutsUnder (clauseParts enc) r (onPath s os') (decConstraint l s (j .at)) (writing (j .progress) xs) w' t → PutsUnder (clauseParts enc) r (onPath s os) (forAll l s at) (writing pr xs) w' t
-  unfolding PutsUnder Puts forAllAt
+  unfolding PutsUnder Puts
   for-all-puts b x os' j d e' o ej i fs y g c z h =
       let a = parts l s at c z h in
       let eb : walked-is.Next b x ≡ walked-is.Next (a .body) (headerFault (record { binder = a .all .binder; preds = a .all .preds })) = sym e' ∙ e ∙ ap (walked headerFault) (headed c z h) in
       let e1 : b ≡ a .body = cc in
-      let stands : forAllAt s at ≡ got (a .all) 0 =
-      rw (
-        deeper .binders l deepest d .agrees s at (a .all .binder) (a .p) (a .binds),
-        a .numbers,
-        deeper .preds l deepest d (a .n) .agrees s (a .q) (a .all .preds) (a .body) (a .holds),
-      ) in
+      let stands : forAllAt s at ≡ got (a .all) 0 = header-at l s at (a .all .binder) (a .all .preds) (a .body) d (headed c z h) in
       let on : onPath s os' ≡ got (fs ++ a .all ∷ []) 0 = ap (onPath s) o ∙ on-snoc s os at fs y (a .all) g stands in
       let n = i (fs ++ a .all ∷ []) 0 on (a .inner) z (rw (ej .0, e1) (a .rest)) in
       (n .0, n .1 ∙ rw (ej .1) (under-one enc r (writing pr xs) fs (a .all) (a .inner) ∙ ap (λ (k : Constraint). puts r (writing pr xs) (clauseParts enc fs k)) (a .is)))
@@ -329,42 +371,114 @@ header-offset l s at v q f e e' h =
     let g = name-inside s at (n .value) (n .next) (n .first) in
     omega arith
 
--- HEADS THAT NEED NO PATH
+-- HEADS FOR WHICH WHAT IS KEPT IS ENOUGH
+
+-- the tests of `is_enough`
+module _ (size room : ℕ) (kept : Kept) where
+  pub enough-empty : room ≡ 0 → true ≡ enough size room kept
+  enough-empty e = rw e
+
+  pub enough-fits : (c : Bool) → (room ≡ 0 → ⊥) → c ≡ fits size kept → c ≡ enough size room kept
+  enough-fits c n e = e ∙ rw (ne-eqb room 0 n)
+
+  -- it is the same with the same numbers
+  pub enough-same : (c : Bool) (size' room' : ℕ) (kept' : Kept) → c ≡ enough size room kept → c ≡ true → size' ≡ size → room' ≡ room → kept' ≡ kept → enough size' room' kept' ≡ true
+  enough-same c size' room' kept' e e' s r k = rw (s, r, k) (sym e ∙ e')
+
+  -- where there is room in the buffer, there is room in the text
+  pub enough-room : enough size room kept ≡ true → (room ≡ 0 → ⊥) → fits size kept ≡ true
+  enough-room h n = rw (ne-eqb room 0 n) at h
 
 module _ (l : ℕ) (s : List ℕ) (at : ℕ) (known c : Bool) (e : c ≡ (known && isHead l s at)) (e' : c ≡ true) where
-  pub light-stands : (0 < l) × (at < length s)
-  light-stands = let h = head-stands l s at true (sym (both known (isHead l s at) (sym e ∙ e') .1)) refl in (h .0, h .1)
+  pub kept-head-known : known ≡ true
+  kept-head-known = both known (isHead l s at) (sym e ∙ e') .0
 
-  pub light-puts : (enc text os : List ℕ) (kept : Kept) (r : Range) (f m : Moved) (b : List ℕ) (w' : Writing) (t : ℕ) → at ≡ f .at → known ≡ kept .has → Keeps s enc os text kept
-      → (m .at ≡ at + 1) × (m .progress ≡ f .progress) → KeptPuts s enc text kept r (decPred (l - 1) s (m .at)) (writing (m .progress) b) w' t
+  pub kept-head-stands : (0 < l) × (at < length s)
+  kept-head-stands = let h = head-stands l s at true (sym (both known (isHead l s at) (sym e ∙ e') .1)) refl in (h .0, h .1)
+
+  pub kept-head-puts : (enc text os : List ℕ) (kept : Kept) (fs : List ForAll) (z : ℕ) (r : Range) (f m : Moved) (b : List ℕ) (w' : Writing) (t : ℕ) → at ≡ f .at → onPath s os ≡ got fs z
+      → Keeps (encoderIn s enc) fs text kept → (m .at ≡ at + 1) × (m .progress ≡ f .progress) → KeptPuts s enc text kept r (decPred (l - 1) s (m .at)) (writing (m .progress) b) w' t
       → PutsUnder (clauseParts (encoderIn s enc)) r (onPath s os) (decConstraint l s (f .at)) (writing (f .progress) b) w' t
-  light-puts enc text os kept r f m b w' t ea ek k u w =
-      let h = both known (isHead l s at) (sym e ∙ e') in
-      let n = head-node l s at true (sym (h .1)) refl in
+  kept-head-puts enc text os kept fs z r f m b w' t ea on k u w =
+      let n = head-node l s at true (sym (both known (isHead l s at) (sym e ∙ e') .1)) refl in
       rw (← ea)
       (node-pred (encoderIn s enc) r (onPath s os) (f .progress) b w' t l s at (constraint-node.Pred (at + 1)) (n .0) (n .1) (at + 1) m refl u
-      (kept-under s enc text os kept r (decPred (l - 1) s (m .at)) (writing (m .progress) b) w' t k (sym ek ∙ h .0) w))
+      (kept-under s enc text os kept fs z r (decPred (l - 1) s (m .at)) (writing (m .progress) b) w' t on k w))
 
 -- READY
 
-module _ (s enc text : List ℕ) (a : Around) (l : ℕ) (h : Ready s enc text a l) where
-  pub ready-fewer : (k : ℕ) → k ≤ l → Ready s enc text a k
-  ready-fewer k g = record { short = h .short; chained = h .chained; leaves = leaves-fewer (a .path) l k g (h .leaves); keeps = h .keeps }
+module _ (s enc text : List ℕ) (path : Path) (k : Kept) (l : ℕ) (h : Ready s enc text path k l) where
+  pub ready-fewer : (j : ℕ) (k' : Kept) → j ≤ l → k' ≡ k → Ready s enc text path k' j
+  ready-fewer j k' g e = record {
+    short = h .short;
+    chained = h .chained;
+    leaves = leaves-fewer path l j g (h .leaves);
+    around = h .around;
+    stands = h .stands;
+    keeps = rw e (h .keeps);
+  }
 
-  pub ready-stays : (text' : List ℕ) → Stays (a .kept) text text' → Ready s enc text' a l
-  ready-stays text' g = record { short = h .short; chained = h .chained; leaves = h .leaves; keeps = keeps-stays s enc (entries (a .path)) text text' (a .kept) (h .keeps) g }
+  pub ready-stays : (text' : List ℕ) (k' : Kept) → Stays k text text' → k' ≡ k → Ready s enc text' path k' l
+  ready-stays text' k' g e = record {
+    short = h .short;
+    chained = h .chained;
+    leaves = h .leaves;
+    around = h .around;
+    stands = h .stands;
+    keeps = rw e (keeps-stays (encoderIn s enc) (h .around) text text' k (h .keeps) g);
+  }
 
--- with one ForAll more
-pub ready-pushed : (s enc text text' : List ℕ) (a b : Around) (l at : ℕ) (k : Kept) → Ready s enc text a (l + 1)
-    → (b .kept ≡ k) × (entries (b .path) ≡ entries (a .path) ++ at ∷ []) × (b .path .depth ≡ a .path .depth + 1) × (length (b .path .offsets) ≡ 256)
-    → Extends s enc at (a .kept) k text text' → Ready s enc text' b l
-ready-pushed s enc text text' a b l at k h e x = record {
-  short = h .short;
-  chained = h .chained;
-  leaves = leaves-pushed (a .path) (b .path) l at (h .leaves) (e .1, e .2, e .3);
-  keeps = rw (e .0, e .1) (x .keeps (entries (a .path)) (h .keeps));
-}
+-- A FORALL'S OWN
 
--- what stays of the longer path stays
-pub stays-inside : (s enc text text' text'' : List ℕ) (at : ℕ) (k k' b : Kept) → Extends s enc at k k' text text' → b ≡ k' → Stays b text' text'' → Stays k text text''
-stays-inside s enc text text' text'' at k k' b x e y = stays-around s enc at k k' text text' text'' x (rw e at y)
+module _ (s enc text text' : List ℕ) (path : Path) (k own : Kept) (l at : ℕ) (h : Ready s enc text path k (l + 1)) (v : Walked) (b : ℕ) (x : Fault)
+    (e : v ≡ walked headerFault (header l s at)) (e' : v ≡ walked-is.Next b x) (u : Extends s enc at k text text' own) where
+  -- the ForAll
+  last : ForAll
+  last = let y = next-is headerFault (header l s at) b x (sym e' ∙ e) in record { binder = y .value .binder; preds = y .value .preds }
+
+  last-stands : forAllAt s at ≡ got last 0
+  unfolding last
+  last-stands =
+      let y = next-is headerFault (header l s at) b x (sym e' ∙ e) in
+      let g = h .leaves .within in
+      header-at l s at (y .value .binder) (y .value .preds) b (omega arith) (y .is)
+
+  extended : Extended (encoderIn s enc) last k text text' own
+  unfolding Extends
+  extended = u last 0 last-stands
+
+  -- what it has is added without reaching the largest number
+  pub own-added : ((i : ℕ) → Fits w8 (getD s i 0)) → (k .vars + own .vars ≤ most) × (k .guards + own .guards ≤ most) × (k .count + own .count ≤ most)
+  own-added bytes =
+      let p : plus k own ≡ measured (encoderIn s enc) (h .around ++ last ∷ []) = measured-plus (encoderIn s enc) (h .around) last k own (h .keeps .measures) (extended .measures) in
+      let g = path-short s (are-bytes s bytes) (h .short) (encoderIn s enc) (valid-in s enc) (entries path ++ at ∷ []) (h .around ++ last ∷ []) 0 (on-snoc s (entries path) at (h .around) 0 last (h .stands) last-stands) in
+      let n = length-append (entries path) (at ∷ []) in
+      let d = depth-is path (l + 1) (h .leaves) in
+      let w = h .leaves .within in (
+        omega (arith, ap (λ (y : Kept). y .vars) p, g .0),
+        omega (arith, ap (λ (y : Kept). y .guards) p, g .1),
+        omega (arith, ap (λ (y : Kept). y .count) p, g .2),
+      )
+
+  module _ (k' : Kept) (i : k' ≡ plus k own) where
+    -- the walk goes on below
+    pub ready-pushed : (path' : Path) → (entries path' ≡ entries path ++ at ∷ []) × (path' .depth ≡ path .depth + 1) × (length (path' .offsets) ≡ 256) → Ready s enc text' path' k' l
+    ready-pushed path' g = record {
+      short = h .short;
+      chained = h .chained;
+      leaves = leaves-pushed path path' l at (h .leaves) g;
+      around = h .around ++ last ∷ [];
+      stands = ap (onPath s) (g .0) ∙ on-snoc s (entries path) at (h .around) 0 last (h .stands) last-stands;
+      keeps = keeps-extended (encoderIn s enc) last k own k' text text' extended i (h .around) (h .keeps);
+    }
+
+    -- what stays of the longer path stays
+    pub stays-inside : (text'' : List ℕ) → Stays k' text' text'' → Stays k text text''
+    stays-inside text'' y = stays-around (encoderIn s enc) last k own k' text text' extended i text'' y
+
+-- coming up, the numbers are those that were given
+pub own-within : (k own k' back : Kept) → k' ≡ plus k own → back ≡ k' → Within own back
+own-within k own k' back e r = within-plus k own back (r ∙ e)
+
+pub own-back : (k own k' back up : Kept) → k' ≡ plus k own → back ≡ k' → up ≡ minus back own → up ≡ k
+own-back k own k' back up e r m = m ∙ plus-minus k own back (r ∙ e)

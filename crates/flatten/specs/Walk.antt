@@ -1,33 +1,46 @@
 -- What the walkers of a constraint are given, and what they do at its heads. Only contracts of inner functions speak of it.
 use Prim.Native.Nat.{ℕ, _<_}
-use mathlib.Core.Bool.{Bool, false, not, _&&_}
+use mathlib.Core.Bool.{Bool, false, not, _&&_, _||_}
 use mathlib.Core.List.{List}
 use mathlib.Core.Path.{_≡_}
+use lib.Dec.{eqb}
 use lib.ListN.{length}
 use Rattle.task.specs.Ast.{Pred}
 use Rattle.task.specs.Decode.{Res, got}
 use Rattle.task.specs.Run.{Runs}
 use Rattle.task_check.specs.Walk.{readTrue}
+use Rattle.path.specs.declared.Path.{Path}
 use Rattle.path.specs.Offsets.{entries, Leaves}
 use Rattle.names.specs.Table.{Chained}
 use Rattle.smt_text.specs.Encoder.{Encoder}
 use Rattle.smt_sort.specs.Section.{encoderIn}
 use Rattle.horn_text.specs.Clauses.{ForAll}
 use Rattle.assertion.specs.declared.Kept.{Kept}
-use Rattle.assertion.specs.Kept.{Holds, Keeps}
-use Rattle.assertion.specs.Under.{assertText}
+use Rattle.assertion.specs.Kept.{measured, fits, Keeps}
+use Rattle.assertion.specs.Under.{onPath, assertText}
 use Rattle.flatten.specs.declared.Range.{Range}
 use Rattle.flatten.specs.declared.Moved.{Moved}
-use Rattle.flatten.specs.declared.Around.{Around}
+use Rattle.flatten.specs.declared.Walk.{Walk}
 use Rattle.flatten.specs.Parts.{Writing, writing, has, place, Puts, headParts}
 
--- A walk may go on: the offsets of the file have two bytes, the table of names can be searched, the path has room for the levels that are
--- left, and what is kept is the path's own.
-pub record Ready (s enc text : List ℕ) (a : Around) (levels : ℕ) : Type 0 where
+-- A walk may go on: the offsets of the file have two bytes, the table of names can be searched, and the path has room for the levels that are
+-- left. W-202: ForAlls stand at the path's offsets, and the numbers that are kept are equal to those of their binders and guards measured afresh,
+-- here and so at each head (`Keeps`, `measures`).
+pub record Ready (s enc text : List ℕ) (path : Path) (kept : Kept) (levels : ℕ) : Type 0 where
   pub short : length s < 65536
   pub chained : Chained s enc
-  pub leaves : Leaves (a .path) levels
-  pub keeps : Keeps s enc (entries (a .path)) text (a .kept)
+  pub leaves : Leaves path levels
+  pub around : List ForAll
+  pub stands : onPath s (entries path) ≡ got around 0
+  pub keeps : Keeps (encoderIn s enc) around text kept
+
+-- W-202: behind a constraint, and so behind a ForAll, the numbers are what they were before it.
+abbrev pub Restores : Walk → Walk → Type 0
+Restores from back = back .kept ≡ from .kept
+
+-- what is kept is enough for heads, without their path: the buffer is empty, or a text of such a size has room for what is kept
+abbrev pub enough : ℕ → ℕ → Kept → Bool
+enough size room kept = eqb room 0 || fits size kept
 
 -- the assertion of a head is written: its number is in the range, and it is not literally true
 unfoldable pub wanted : Range → ℕ → Res Pred → Bool
@@ -43,13 +56,16 @@ Passes f d m =
 unfoldable pub Places : Encoder → List ForAll → Res Pred → Writing → Writing → ℕ → Type 0
 Places enc fs d w w' at = Runs (λ v p. place v (assertText enc fs p)) d w w' at
 
--- So it was under the ForAlls of which all is kept, and under those of a path.
+-- So it was under the ForAlls of which the numbers are kept, under those of which the text is kept, and under those of a path.
+unfoldable pub MeasuredPlaces : List ℕ → List ℕ → Kept → Res Pred → Writing → Writing → ℕ → Type 0
+MeasuredPlaces s enc kept d w w' at = (fs : List ForAll) → kept ≡ measured (encoderIn s enc) fs → Places (encoderIn s enc) fs d w w' at
+
 unfoldable pub KeptPlaces : List ℕ → List ℕ → List ℕ → Kept → Res Pred → Writing → Writing → ℕ → Type 0
-KeptPlaces s enc text kept d w w' at = (fs : List ForAll) → Holds s enc text kept fs → Places (encoderIn s enc) fs d w w' at
+KeptPlaces s enc text kept d w w' at = (fs : List ForAll) → Keeps (encoderIn s enc) fs text kept → Places (encoderIn s enc) fs d w w' at
 
 unfoldable pub PathPlaces : Encoder → Res (List ForAll) → Res Pred → Writing → Writing → ℕ → Type 0
 PathPlaces enc path d w w' at = (fs : List ForAll) (q : ℕ) → path ≡ got fs q → Places enc fs d w w' at
 
--- The parts of a head under the ForAlls of which all is kept were put.
+-- The parts of a head under the ForAlls of which the text is kept were put.
 unfoldable pub KeptPuts : List ℕ → List ℕ → List ℕ → Kept → Range → Res Pred → Writing → Writing → ℕ → Type 0
-KeptPuts s enc text kept r d w w' at = (fs : List ForAll) → Holds s enc text kept fs → Puts (headParts (encoderIn s enc) fs) r d w w' at
+KeptPuts s enc text kept r d w w' at = (fs : List ForAll) → Keeps (encoderIn s enc) fs text kept → Puts (headParts (encoderIn s enc) fs) r d w w' at

@@ -1,14 +1,16 @@
 // `flatten_constraint` of `smt_horn.rs`: the walk of the constraint with the path of ForAlls. At each head that is not literally true it puts
-// the assertion into the buffer behind the last written byte, if the assertion's number among the parts is in the range.
+// the assertion into the buffer behind the last written byte, if the assertion's number among the parts is in the range. The walk carries how
+// much text the binders and guards of the path have: a ForAll adds what it has for its body and takes it back behind it. So where the buffer
+// is empty an assertion is measured without going over the path.
 use assertion::Kept;
 use output::Out;
 use path::Path;
 use task::ConstraintNode;
 use task_check::Walked;
-ghost use mathlib.Core.Bool.{_&&_};
-ghost use mathlib.Core.List.{[], _∷_, _++_};
+ghost use mathlib.Core.Bool.{true, _&&_};
+ghost use mathlib.Core.List.{[]};
 ghost use mathlib.Core.Path.{_≡_};
-ghost use Prim.Native.Nat.{_+_, _<_, max};
+ghost use Prim.Native.Nat.{_+_, _≤_, max};
 ghost use lib.ListN.{length};
 ghost use Rattle.task.specs.Ast.{Constraints};
 ghost use Rattle.task.specs.Decode.{many, decPred, decConstraint};
@@ -16,10 +18,11 @@ ghost use Rattle.path.specs.Offsets.{entries, Leaves};
 ghost use Rattle.constraint_check.specs.Around.{isHead, forAll};
 ghost use Rattle.names.specs.Table.{Chained};
 ghost use Rattle.smt_sort.specs.Section.{encoderIn};
-ghost use Rattle.assertion.specs.Kept.{Fits, Stays};
-ghost use Rattle.assertion.specs.Under.{onPath, countAll, Counts};
+ghost use Rattle.output.specs.Emit.{most};
+ghost use Rattle.assertion.specs.Kept.{plus, minus, Within, fits, Stays, Numbers};
+ghost use Rattle.assertion.specs.Under.{onPath};
 ghost use Rattle.flatten.specs.Parts.{writing, has as hasIn, placed as placedIs, passed as passedIs, PutsUnder, headParts, clauseParts, memberParts};
-ghost use Rattle.flatten.specs.Walk.{wanted, Passes, KeptPlaces, PathPlaces, KeptPuts, Ready};
+ghost use Rattle.flatten.specs.Walk.{enough as enoughIs, wanted, Passes, MeasuredPlaces, KeptPlaces, PathPlaces, KeptPuts, Ready, Restores};
 
 // The numbers of the parts that are written: from one up to, not including, another.
 pub struct Range {
@@ -40,16 +43,16 @@ pub struct Moved {
     pub progress: Progress,
 }
 
-// Constraints in a row: where the walk meets the first, and how many they are.
-pub struct Row {
-    pub from: Moved,
-    pub left: u64,
+// What a walk of a constraint carries: where it is and the progress so far, and what is kept of the ForAlls around it.
+pub struct Walk {
+    pub moved: Moved,
+    pub kept: Kept,
 }
 
-// The ForAlls around a constraint: the path of their offsets, and what is kept of them.
-pub struct Around {
-    pub path: Path,
-    pub kept: Kept,
+// Constraints in a row: how the walk meets the first, and how many they are.
+pub struct Row {
+    pub from: Walk,
+    pub left: u64,
 }
 
 // The larger of two numbers.
@@ -74,20 +77,6 @@ impl Range {
     }
 }
 
-impl Around {
-    // One more ForAll, with what is kept of all.
-    fn push(self, at: usize, kept: Kept) -> Around
-        requires { ⌜ (self .path .depth < 256) × (at < 65536) ⌝ }
-        ensures { λ r. ⌜ (r .kept ≡ kept) × (entries (r .path) ≡ entries (self .path) ++ at ∷ []) × (r .path .depth ≡ self .path .depth + 1) × (length (r .path .offsets) ≡ 256) ⌝ }
-    {
-        let path = self.path;
-        Around {
-            path: path.push(at),
-            kept,
-        }
-    }
-}
-
 impl Moved {
     // At another position, with the same progress.
     fn to(self, at: usize) -> Moved
@@ -96,14 +85,58 @@ impl Moved {
         let progress = self.progress;
         Moved { at, progress }
     }
+}
+
+impl Walk {
+    // Behind a head.
+    fn behind(self, moved: Moved) -> Walk
+        ensures { λ r. ⌜ (r .moved ≡ moved) × (r .kept ≡ self .kept) ⌝ }
+    {
+        let kept = self.kept;
+        Walk { moved, kept }
+    }
+
+    // At another position.
+    fn to(self, at: usize) -> Walk
+        ensures { λ r. ⌜ (r .moved .at ≡ at) × (r .moved .progress ≡ self .moved .progress) × (r .kept ≡ self .kept) ⌝ }
+    {
+        let moved = self.moved;
+        self.behind(moved.to(at))
+    }
 
     // Constraints in a row, the first at another position.
     fn row(self, at: usize, left: u64) -> Row
-        ensures { λ r. ⌜ (r .from .at ≡ at) × (r .from .progress ≡ self .progress) × (r .left ≡ left) ⌝ }
+        ensures { λ r. ⌜ (r .from .moved .at ≡ at) × (r .from .moved .progress ≡ self .moved .progress) × (r .from .kept ≡ self .kept) × (r .left ≡ left) ⌝ }
     {
         Row {
             from: self.to(at),
             left,
+        }
+    }
+
+    // Down to the body of a ForAll: what it has is added.
+    fn down(self, body: usize, own: Kept) -> Walk
+        requires { ⌜ (self .kept .vars + own .vars ≤ most) × (self .kept .guards + own .guards ≤ most) × (self .kept .count + own .count ≤ most) ⌝ }
+        ensures { λ r. ⌜ (r .moved .at ≡ body) × (r .moved .progress ≡ self .moved .progress) × (r .kept ≡ plus (self .kept) own) ⌝ }
+    {
+        let moved = self.moved;
+        let kept = self.kept;
+        Walk {
+            moved: moved.to(body),
+            kept: kept.plus(own),
+        }
+    }
+
+    // Up again: what it has is taken back.
+    fn up(self, own: Kept) -> Walk
+        requires { ⌜ Within own (self .kept) ⌝ }
+        ensures { λ r. ⌜ (r .moved ≡ self .moved) × (r .kept ≡ minus (self .kept) own) ⌝ }
+    {
+        let moved = self.moved;
+        let kept = self.kept;
+        Walk {
+            moved,
+            kept: kept.minus(own),
         }
     }
 }
@@ -175,7 +208,22 @@ fn pass_head(s: &[u8], from: Moved, levels: usize) -> Moved
     }
 }
 
-// Puts the assertion of a head behind the last written byte, from what is kept of the ForAlls around it.
+// Measures the assertion of a head from the lengths that are kept of the ForAlls around it.
+fn measure_assert(s: &[u8], from: Moved, levels: usize, kept: Kept, enc: &[u16]) -> Moved
+    requires { ⌜ Chained (now s) (now enc) ⌝ }
+    ensures { λ r. ⌜ MeasuredPlaces (now (s .entry)) (now (enc .entry)) kept (decPred levels (now (s .entry)) (from .at)) (writing (from .progress) []) (writing (r .progress) []) (r .at) ⌝ }
+{
+    let at = from.at;
+    let p = from.progress;
+    let sent = assertion::measure_assert(s, at, levels, kept, enc);
+    let out = sent.out;
+    Moved {
+        at: sent.at,
+        progress: p.placed(out.len),
+    }
+}
+
+// Puts the assertion of a head behind the last written byte, from the text that is kept of the ForAlls around it.
 fn put_assert(
     s: &[u8],
     from: Moved,
@@ -185,7 +233,7 @@ fn put_assert(
     enc: &[u16],
     buf: &mut [u8],
 ) -> Moved
-    requires { ⌜ Chained (now s) (now enc) × Fits (now text) kept ⌝ }
+    requires { ⌜ Chained (now s) (now enc) × (fits (length (now text)) kept ≡ true) ⌝ }
     ensures { λ r. ⌜ KeptPlaces (now (s .entry)) (now (enc .entry)) (now (text .entry)) kept (decPred levels (now (s .entry)) (from .at)) (writing (from .progress) (now (buf .entry))) (writing (r .progress) (now (buf .exit))) (r .at) ⌝ }
 {
     let at = from.at;
@@ -208,7 +256,7 @@ fn put_assert(
     }
 }
 
-// The same from the path, of which only the number of guards is kept.
+// The same from the path and the number of its guards.
 fn put_long_assert(
     s: &[u8],
     from: Moved,
@@ -219,7 +267,7 @@ fn put_long_assert(
     buf: &mut [u8],
 ) -> Moved
     requires { ⌜ Chained (now s) (now enc) × Leaves path 0 ⌝ }
-    requires { ⌜ Counts countAll (onPath (now s) (entries path)) 0 count ⌝ }
+    requires { ⌜ Numbers (now s) (entries path) count ⌝ }
     ensures { λ r. ⌜ PathPlaces (encoderIn (now (s .entry)) (now (enc .entry))) (onPath (now (s .entry)) (entries path)) (decPred levels (now (s .entry)) (from .at)) (writing (from .progress) (now (buf .entry))) (writing (r .progress) (now (buf .exit))) (r .at) ⌝ }
 {
     let at = from.at;
@@ -242,7 +290,17 @@ fn put_long_assert(
     }
 }
 
-// A head inside ForAlls of which binders and guards are kept.
+// Whether heads are put from what is kept alone: the buffer is empty, so that they are measured, or the text has room for the path's.
+fn is_enough(kept: Kept, size: usize, room: usize) -> bool
+    ensures { λ r. ⌜ r ≡ enoughIs size room kept ⌝ }
+{
+    if room == 0 {
+        return true;
+    }
+    kept.fits(size)
+}
+
+// Such a head.
 fn flatten_kept_head(
     s: &[u8],
     from: Moved,
@@ -253,136 +311,152 @@ fn flatten_kept_head(
     range: Range,
     buf: &mut [u8],
 ) -> Moved
-    requires { ⌜ Chained (now s) (now enc) × Fits (now text) kept ⌝ }
+    requires { ⌜ Chained (now s) (now enc) × (enoughIs (length (now text)) (length (now buf)) kept ≡ true) ⌝ }
     ensures { λ r. ⌜ KeptPuts (now (s .entry)) (now (enc .entry)) (now (text .entry)) kept range (decPred levels (now (s .entry)) (from .at)) (writing (from .progress) (now (buf .entry))) (writing (r .progress) (now (buf .exit))) (r .at) ⌝ }
 {
     let p = from.progress;
-    if is_wanted(s, from.at, levels, range, p.seen) {
-        return put_assert(s, from, levels, kept, text, enc, buf);
+    if !is_wanted(s, from.at, levels, range, p.seen) {
+        return pass_head(s, from, levels);
     }
-    pass_head(s, from, levels)
+    if buf.len() == 0 {
+        return measure_assert(s, from, levels, kept, enc);
+    }
+    put_assert(s, from, levels, kept, text, enc, buf)
 }
 
 // Any head.
 fn flatten_head(
     s: &[u8],
-    from: Moved,
+    from: Walk,
     levels: usize,
-    around: Around,
+    path: Path,
     text: &[u8],
     enc: &[u16],
     range: Range,
     buf: &mut [u8],
 ) -> Moved
-    requires { ⌜ Ready (now s) (now enc) (now text) around levels ⌝ }
-    ensures { λ r. ⌜ PutsUnder (headParts (encoderIn (now (s .entry)) (now (enc .entry)))) range (onPath (now (s .entry)) (entries (around .path))) (decPred levels (now (s .entry)) (from .at)) (writing (from .progress) (now (buf .entry))) (writing (r .progress) (now (buf .exit))) (r .at) ⌝ }
+    requires { ⌜ Ready (now s) (now enc) (now text) path (from .kept) levels ⌝ }
+    ensures { λ r. ⌜ PutsUnder (headParts (encoderIn (now (s .entry)) (now (enc .entry)))) range (onPath (now (s .entry)) (entries path)) (decPred levels (now (s .entry)) (from .moved .at)) (writing (from .moved .progress) (now (buf .entry))) (writing (r .progress) (now (buf .exit))) (r .at) ⌝ }
 {
-    let kept = around.kept;
-    if kept.has {
-        return flatten_kept_head(s, from, levels, kept, text, enc, range, buf);
+    let kept = from.kept;
+    let moved = from.moved;
+    if is_enough(kept, text.len(), buf.len()) {
+        return flatten_kept_head(s, moved, levels, kept, text, enc, range, buf);
     }
-    let p = from.progress;
-    if is_wanted(s, from.at, levels, range, p.seen) {
-        return put_long_assert(s, from, levels, around.path, kept.count, enc, buf);
+    let p = moved.progress;
+    if is_wanted(s, moved.at, levels, range, p.seen) {
+        return put_long_assert(s, moved, levels, path, kept.count, enc, buf);
     }
-    pass_head(s, from, levels)
+    pass_head(s, moved, levels)
 }
 
-// Whether a head stands at a position and all that it needs is kept: then the walk over it takes no path.
-fn is_light(s: &[u8], at: usize, levels: usize, kept: Kept) -> bool
-    ensures { λ r. ⌜ r ≡ (kept .has && isHead levels (now (s .entry)) at) ⌝ }
+// Whether a head stands at a position, if what is kept is enough for it.
+fn is_kept_head(s: &[u8], at: usize, levels: usize, enough: bool) -> bool
+    ensures { λ r. ⌜ r ≡ (enough && isHead levels (now (s .entry)) at) ⌝ }
 {
-    if kept.has {
+    if enough {
         return constraint_check::is_head(s, at, levels);
     }
     false
 }
 
-// The constraint at a position, inside the ForAlls around it.
+// The constraint at a position, inside the ForAlls of the path.
 pub fn flatten_constraint(
     s: &[u8],
-    from: Moved,
+    from: Walk,
     levels: usize,
-    around: Around,
+    path: Path,
     enc: &[u16],
     range: Range,
     buf: &mut [u8],
     text: &mut [u8],
-) -> Moved
-    requires { ⌜ Ready (now s) (now enc) (now text) around levels ⌝ }
-    ensures { λ r. ⌜ PutsUnder (clauseParts (encoderIn (now (s .entry)) (now (enc .entry)))) range (onPath (now (s .entry)) (entries (around .path))) (decConstraint levels (now (s .entry)) (from .at)) (writing (from .progress) (now (buf .entry))) (writing (r .progress) (now (buf .exit))) (r .at) ⌝ }
-    ensures { λ r. ⌜ Stays (around .kept) (now (text .entry)) (now (text .exit)) ⌝ }
+) -> Walk
+    requires { ⌜ Ready (now s) (now enc) (now text) path (from .kept) levels ⌝ }
+    ensures { λ r. ⌜ PutsUnder (clauseParts (encoderIn (now (s .entry)) (now (enc .entry)))) range (onPath (now (s .entry)) (entries path)) (decConstraint levels (now (s .entry)) (from .moved .at)) (writing (from .moved .progress) (now (buf .entry))) (writing (r .moved .progress) (now (buf .exit))) (r .moved .at) ⌝ }
+    ensures { λ r. ⌜ Restores from r ⌝ }
+    ensures { λ r. ⌜ Stays (from .kept) (now (text .entry)) (now (text .exit)) ⌝ }
 {
     if levels == 0 {
         return from;
     }
     let below = levels - 1;
-    let node = task::read_constraint_node(s, from.at);
+    let moved = from.moved;
+    let node = task::read_constraint_node(s, moved.at);
     match node {
         ConstraintNode::Pred(q) => {
-            flatten_head(s, from.to(q), below, around, text, enc, range, buf)
+            let head = flatten_head(s, from.to(q), below, path, text, enc, range, buf);
+            from.behind(head)
         }
         ConstraintNode::Conj(n, q) => {
-            flatten_members(s, from.row(q, n), below, around, enc, range, buf, text)
+            flatten_members(s, from.row(q, n), below, path, enc, range, buf, text)
         }
         ConstraintNode::ForAll(q) => {
-            flatten_for_all(s, from.to(q), below, around, enc, range, buf, text)
+            flatten_for_all(s, from.to(q), below, path, enc, range, buf, text)
         }
         ConstraintNode::Refused => from,
     }
 }
 
-// Constraints in a row, each inside the same ForAlls. A head needs no copy of the path.
+// Constraints in a row, each inside the same ForAlls. A head for which what is kept is enough needs no copy of the path.
 fn flatten_members(
     s: &[u8],
     row: Row,
     levels: usize,
-    around: Around,
+    path: Path,
     enc: &[u16],
     range: Range,
     buf: &mut [u8],
     text: &mut [u8],
-) -> Moved
-    requires { ⌜ Ready (now s) (now enc) (now text) around levels ⌝ }
-    ensures { λ r. ⌜ PutsUnder (memberParts (encoderIn (now (s .entry)) (now (enc .entry)))) range (onPath (now (s .entry)) (entries (around .path))) (many Constraints.none Constraints.more (decConstraint levels) (row .left) (now (s .entry)) (row .from .at)) (writing (row .from .progress) (now (buf .entry))) (writing (r .progress) (now (buf .exit))) (r .at) ⌝ }
-    ensures { λ r. ⌜ Stays (around .kept) (now (text .entry)) (now (text .exit)) ⌝ }
+) -> Walk
+    requires { ⌜ Ready (now s) (now enc) (now text) path (row .from .kept) levels ⌝ }
+    ensures { λ r. ⌜ PutsUnder (memberParts (encoderIn (now (s .entry)) (now (enc .entry)))) range (onPath (now (s .entry)) (entries path)) (many Constraints.none Constraints.more (decConstraint levels) (row .left) (now (s .entry)) (row .from .moved .at)) (writing (row .from .moved .progress) (now (buf .entry))) (writing (r .moved .progress) (now (buf .exit))) (r .moved .at) ⌝ }
+    ensures { λ r. ⌜ Restores (row .from) r ⌝ }
+    ensures { λ r. ⌜ Stays (row .from .kept) (now (text .entry)) (now (text .exit)) ⌝ }
 {
-    let kept = around.kept;
-    let mut walk = row.from;
+    let from = row.from;
+    let mut moved = from.moved;
+    let mut kept = from.kept;
     let mut left = row.left;
+    let enough = is_enough(kept, text.len(), buf.len());
     while 0 < left {
         left -= 1;
-        let at = walk.at;
-        if is_light(s, at, levels, kept) {
-            walk = flatten_kept_head(s, walk.to(at + 1), levels - 1, kept, text, enc, range, buf);
+        let at = moved.at;
+        if is_kept_head(s, at, levels, enough) {
+            moved = flatten_kept_head(s, moved.to(at + 1), levels - 1, kept, text, enc, range, buf);
             continue;
         }
-        walk = flatten_constraint(s, walk, levels, around, enc, range, buf, text);
+        let walk = Walk { moved, kept };
+        let next = flatten_constraint(s, walk, levels, path, enc, range, buf, text);
+        moved = next.moved;
+        kept = next.kept;
     }
-    walk
+    Walk { moved, kept }
 }
 
-// A ForAll behind its code: its body is inside it too.
+// A ForAll behind its code: its body is inside it too. What it has is added for the body, and taken back behind it.
 fn flatten_for_all(
     s: &[u8],
-    from: Moved,
+    from: Walk,
     levels: usize,
-    mut around: Around,
+    mut path: Path,
     enc: &[u16],
     range: Range,
     buf: &mut [u8],
     text: &mut [u8],
-) -> Moved
-    requires { ⌜ Ready (now s) (now enc) (now text) around (levels + 1) ⌝ }
-    ensures { λ r. ⌜ PutsUnder (clauseParts (encoderIn (now (s .entry)) (now (enc .entry)))) range (onPath (now (s .entry)) (entries (around .path))) (forAll levels (now (s .entry)) (from .at)) (writing (from .progress) (now (buf .entry))) (writing (r .progress) (now (buf .exit))) (r .at) ⌝ }
-    ensures { λ r. ⌜ Stays (around .kept) (now (text .entry)) (now (text .exit)) ⌝ }
+) -> Walk
+    requires { ⌜ Ready (now s) (now enc) (now text) path (from .kept) (levels + 1) ⌝ }
+    ensures { λ r. ⌜ PutsUnder (clauseParts (encoderIn (now (s .entry)) (now (enc .entry)))) range (onPath (now (s .entry)) (entries path)) (forAll levels (now (s .entry)) (from .moved .at)) (writing (from .moved .progress) (now (buf .entry))) (writing (r .moved .progress) (now (buf .exit))) (r .moved .at) ⌝ }
+    ensures { λ r. ⌜ Restores from r ⌝ }
+    ensures { λ r. ⌜ Stays (from .kept) (now (text .entry)) (now (text .exit)) ⌝ }
 {
-    let at = from.at;
+    let moved = from.moved;
+    let at = moved.at;
     let header = constraint_check::check_header(s, at, levels);
     let Walked::Next(body, _) = header else {
         return from;
     };
-    let kept = assertion::extend(s, at, enc, text, around.kept);
-    around = around.push(at, kept);
-    flatten_constraint(s, from.to(body), levels, around, enc, range, buf, text)
+    let own = assertion::extend(s, at, enc, text, from.kept);
+    path = path.push(at);
+    let back = flatten_constraint(s, from.down(body, own), levels, path, enc, range, buf, text);
+    back.up(own)
 }

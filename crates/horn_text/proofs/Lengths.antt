@@ -142,7 +142,7 @@ module _ (enc : Encoder) (v : Valid (enc .names)) where
       simp length-append (omega arith)
 
   -- the predicates that are not literally true are no more than all of them
-  kept-less : (ps : List Pred) → wides (write-preds enc (kept ps)) ≤ wides (write-preds enc ps)
+  pub kept-less : (ps : List Pred) → wides (write-preds enc (kept ps)) ≤ wides (write-preds enc ps)
   kept-less [] = omega arith
   kept-less (p ∷ ps) = go (literallyTrue p) (kept-less ps)
     where

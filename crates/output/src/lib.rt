@@ -285,6 +285,15 @@ impl Out {
         }
     }
 
+    // Counts n bytes of which none is stored.
+    pub fn counted(self, n: usize) -> Self
+        ensures { λ r. ⌜ r .len ≡ min (self .len + n) most ⌝ }
+    {
+        Self {
+            len: sum(self.len, n),
+        }
+    }
+
     // Sends a byte.
     pub fn byte(self, buf: &mut [u8], b: u8) -> Self
         ensures { λ r. ⌜ output (now (buf .exit)) (r .len) ≡ emit (output (now (buf .entry)) (self .len)) b ⌝ }

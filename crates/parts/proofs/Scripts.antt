@@ -1,8 +1,7 @@
 -- What the parts of a file add up to: its declarations, its assertions, its script.
 use mathlib.Core.Path.{_≡_, sym, ap, _∙_, subst}
-use mathlib.Core.Bool.{true}
 use mathlib.Core.List.{List, [], _∷_, _++_}
-use Prim.Native.Nat.{ℕ, _/_, _≤_}
+use Prim.Native.Nat.{ℕ, _≤_}
 use native.Mathlib.Omega.{arith}
 use lib.ListN.{length, take}
 use Rattle.smtlib.specs.Lexicon.{bytes}
@@ -71,13 +70,15 @@ declarations-put file enc b r w w1 w2 w3 w4 u1 u2 u3 u4 us q e =
 
 -- the walk may begin without ForAlls around it
 pub ready-start : (file enc text : List ℕ) (p : Path) (k : Kept) → length file ≤ 60000 → Chained file enc → (offsetsOn p ≡ []) × (p .depth ≡ 0) × (length (p .offsets) ≡ 256)
-    → (k .has ≡ true) × (k .vars ≡ 0) × (k .middle ≡ length text / 2) × (k .guards ≡ length text / 2) × (k .count ≡ 0) → length text ≤ 32768
-    → Ready file enc text (record { path = p; kept = k }) deepest
-ready-start file enc text p k f h e g l = record {
+    → (k .vars ≡ 0) × (k .guards ≡ 0) × (k .count ≡ 0) → Ready file enc text p k deepest
+unfolding onPath
+ready-start file enc text p k f h e g = record {
   short = omega arith;
   chained = h;
   leaves = leaves-empty p e;
-  keeps = rw (e .0) (keeps-start file enc text (length text / 2) k g (omega arith) (omega arith));
+  around = [];
+  stands = rw (e .0);
+  keeps = keeps-start (encoderIn file enc) text k g;
 }
 
 pub assertions-put : (file enc : List ℕ) (b : Bounds) (os : List ℕ) (r : Range) (w w' : Writing) (q : ℕ) → os ≡ []

@@ -1,10 +1,10 @@
 // The parts of a script and the walk over those in a range, `write_smt_horn` of `smt_horn.rs`: the opening, the declarations, the blank line,
 // the assertions, the closing. Each is written into the buffer behind the last written byte, and counted.
 use assertion::Kept;
-use flatten::Around;
 use flatten::Moved;
 use flatten::Progress;
 use flatten::Range;
+use flatten::Walk;
 use item_check::Section;
 use output::Out;
 use path::Path;
@@ -215,8 +215,7 @@ fn put_declarations(
     put_items(file, b, Section::KVars, enc, range, buf, p3)
 }
 
-// The assertions, each as a part. What is kept of a path stands in a lent text, whatever it holds: binders in its first half, guards in the
-// other.
+// The assertions, each as a part. The text of a path is kept in a lent one, whatever that holds: binders in its first half, guards in the other.
 fn put_kept(
     file: &[u8],
     b: Bounds,
@@ -227,22 +226,21 @@ fn put_kept(
     text: &mut [u8],
 ) -> Progress
     requires { ⌜ Inside (now file) b × Chained (now file) (now enc) ⌝ }
-    requires { ⌜ length (now text) ≤ 32768 ⌝ }
     ensures { λ r. ⌜ PutsAll (assertionParts (now (file .entry)) (now (enc .entry))) range (constraintIn (now (file .entry)) b) (writing p (now (buf .entry))) (writing r (now (buf .exit))) ⌝ }
 {
-    let from = Moved {
-        at: b.constraint,
-        progress: p,
+    let from = Walk {
+        moved: Moved {
+            at: b.constraint,
+            progress: p,
+        },
+        kept: Kept::none(),
     };
-    let around = Around {
-        path: Path::empty(),
-        kept: Kept::start(text.len() / 2),
-    };
-    let moved = flatten::flatten_constraint(file, from, 256, around, enc, range, buf, text);
+    let walk = flatten::flatten_constraint(file, from, 256, Path::empty(), enc, range, buf, text);
+    let moved = walk.moved;
     moved.progress
 }
 
-// The assertions, each as a part. A short file does not wait for a long text to be cleared.
+// The assertions, each as a part. Where they are only measured no text is kept, and a short file does not wait for a long one to be cleared.
 fn put_assertions(
     file: &[u8],
     b: Bounds,
@@ -254,6 +252,10 @@ fn put_assertions(
     requires { ⌜ Inside (now file) b × Chained (now file) (now enc) ⌝ }
     ensures { λ r. ⌜ PutsAll (assertionParts (now (file .entry)) (now (enc .entry))) range (constraintIn (now (file .entry)) b) (writing p (now (buf .entry))) (writing r (now (buf .exit))) ⌝ }
 {
+    if buf.len() == 0 {
+        let mut none = [0u8; 0];
+        return put_kept(file, b, enc, range, buf, p, &mut none);
+    }
     if file.len() <= 1000 {
         let mut text = [0u8; 4096];
         return put_kept(file, b, enc, range, buf, p, &mut text);

@@ -1,14 +1,13 @@
 -- What the steps of the three calls add up to.
 use mathlib.Core.Path.{_≡_, refl, sym, ap, _∙_}
 use mathlib.Core.Bool.{Bool, true, false, cond}
-use mathlib.Core.List.{List, [], _∷_, append-nil}
+use mathlib.Core.List.{List, [], _∷_, _++_, append-nil}
 use Prim.Native.Nat.{ℕ, zero, suc, _+_, _≤_, _<_, max}
+use native.Mathlib.Nat.{zero-add}
 use native.Mathlib.Omega.{arith}
-use mir.Val.{Fits}
-use mir.Syntax.{w8}
 use lib.Dec.{leb, ltb}
-use lib.ListN.{length, getD, set, length-append}
-use lib.Seq.{sets, getD-set-same}
+use lib.ListN.{length, drop, getD, set, length-append}
+use lib.Seq.{sets, sets-eq, getD-set-same}
 use borrow.Author.Tests.{le-leb, lt-leb, lt-ltb, le-ltb}
 use mathlib.Core.Logic.{⊎-elim}
 use Rattle.smtlib.proofs.Bools.{clash}
@@ -41,7 +40,6 @@ use Rattle.flatten.specs.declared.Range.{Range}
 use Rattle.flatten.specs.declared.Progress.{Progress}
 use Rattle.flatten.specs.Parts.{Writing, writing, up, has, place, pass, put, puts, chosen}
 use Rattle.flatten.proofs.Totals.{totals, chosen-all, chosen-one}
-use Rattle.assertion.proofs.Keeping.{sets-laid}
 use Rattle.parts.specs.Whole.{fresh, PutsScript, Measured, Accepted}
 use Rattle.smt_horn.specs.declared.Surveyed.the-variants as survey-is
 use Rattle.smt_horn.specs.declared.Written.the-variants as written-is
@@ -50,9 +48,9 @@ use Rattle.smt_horn.specs.declared.Outcome.{Outcome}
 use Rattle.smt_horn.specs.declared.Outcome.the-variants as outcome-is
 use Rattle.smt_horn.specs.Putting.{PutsTask, Given, Puts}
 
--- the elements of a slice of bytes are bytes
-pub are-bytes : (file : List ℕ) → ((i : ℕ) → Fits w8 (getD file i 0)) → Bytes file
-are-bytes file h i = h i .fits
+-- a text that fits the buffer stands at its start, before what stood behind
+sets-laid : (t b : List ℕ) → length t ≤ length b → sets b 0 t ≡ t ++ drop (length t) b
+sets-laid t b h = sets-eq t b 0 (omega arith) ∙ ap (λ (k : ℕ). t ++ drop k b) (zero-add (length t))
 
 -- WHAT INSPECT FOUND
 

@@ -256,7 +256,7 @@ module _ (enc : Encoder) (v : Valid (enc .names)) where
   abbrev wide-binders : List Binder → ℕ
   wide-binders bs = wides (write-binders enc bs)
 
-  binders : (l : ℕ) → Costs 0 (λ b. wide (write-binder enc b)) (binder l)
+  pub binders : (l : ℕ) → Costs 0 (λ b. wide (write-binder enc b)) (binder l)
   unfolding write-binder write-name
   binders l = names ⟫ λ x. sorts l ⟫ λ b. free (simp length-append (omega arith))
 

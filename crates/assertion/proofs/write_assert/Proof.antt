@@ -1,8 +1,8 @@
--- `write_assert`: round what is kept of the binders and of the guards.
+-- `write_assert`: round the text that is kept of the binders and of the guards.
 use mathlib.Core.Path.{refl}
 use native.Mathlib.Omega.{arith}
-use lib.ListN.{length-take}
-use Rattle.assertion.proofs.Asserts.{kept-asserts}
+use lib.ListN.{length, length-take}
+use Rattle.assertion.proofs.Asserts.{fits-both, kept-asserts}
 use borrow.Author.Needs.{needs}
 use Rattle.assertion.proofs.write_assert.Statement.{statement}
 use Rattle.assertion.proofs.write_assert.Tie as tie
@@ -14,7 +14,7 @@ open-assert-requires : tie.Need-open-assert-requires
 open-assert-requires c κs = search needs
 
 slice-aggregate-bytes : tie.Need-slice-aggregate-bytes
-slice-aggregate-bytes c = let h = c .before .before .before .before .before .before .before .before .before .before .before .pre .1 .inside-vars in let g = c .before .before .before .before .before .before .before .before .before .before .before .pre .1 .inside-guards in let f = c .before .before .before .before .before .before .before .before .before .before .before .pre .1 .inside in simp length-take (omega arith)
+slice-aggregate-bytes c = let h = fits-both (length (c .before .before .before .before .before .before .before .before .before .before .before .args .text .now)) (c .before .before .before .before .before .before .before .before .before .before .before .args .kept) (c .before .before .before .before .before .before .before .before .before .before .before .pre .1) .0 in simp length-take (omega arith)
 
 bytes-requires : tie.Need-bytes-requires
 bytes-requires c κs = search needs

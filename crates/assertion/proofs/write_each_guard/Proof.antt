@@ -7,7 +7,7 @@ use lib.ListN.{length}
 use Rattle.path.specs.Offsets.{entries}
 use Rattle.output.specs.Emit.{output, Sends}
 use Rattle.smt_sort.specs.Section.{encoderIn}
-use Rattle.assertion.proofs.Guards.{guards-steps, Along, along-start, along-offset, along-done}
+use Rattle.assertion.proofs.Guards.{guards-steps, Along, along-start, along-offset, along-done, own-sent}
 use Rattle.assertion.proofs.write_each_guard.Statement.{statement}
 use Rattle.assertion.proofs.write_each_guard.Tie as tie
 
@@ -33,14 +33,14 @@ write-own-guards-requires : tie.Need-write-own-guards-requires Inv-loop μ-loop
 write-own-guards-requires c κs = c .before .before .before .before .before .before .before .before .pre .0
 
 add-i : tie.Need-add-i Inv-loop μ-loop
-add-i c = let h = c .before .before .before .before .before .before .before .before .before .before .before .pre .1 .within in let t = c .before .before .before .before .before .before .loop-test .taken in omega arith
+add-i c = let h = c .before .before .before .before .before .before .before .before .before .before .before .before .pre .1 .within in let t = c .before .before .before .before .before .before .before .loop-test .taken in omega arith
 
 loop-less : tie.Need-loop-less Inv-loop μ-loop
 loop-less c = search needs
 
 loop-again : tie.Need-loop-again Inv-loop μ-loop
 unfolding Sends
-loop-again c = (along-offset _ _ _ _ (c .before .before .before .before .before .before .before .before .before .before .before .pre .1) _ _ _ _ (c .before .before .before .before .before .before .loop-test .taken) (c .before .before .before .before .position .ensures) (c .before .before .before .before .before .before .before .loop .inv .0) (c .before .before .write-own-guards .ensures), search needs)
+loop-again c = (along-offset _ _ _ _ (c .before .before .before .before .before .before .before .before .before .before .before .before .pre .1) _ _ _ _ (c .before .before .before .before .before .before .before .loop-test .taken) (c .before .before .before .before .before .position .ensures) (c .before .before .before .before .before .before .before .before .loop .inv .0) (own-sent _ _ _ _ _ _ _ _ _ (c .before .before .before .write-own-guards .ensures)), search needs)
 
 same-length : tie.Need-same-length Inv-loop μ-loop
 same-length c = c .before .loop .inv .1

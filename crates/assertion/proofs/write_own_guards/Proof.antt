@@ -1,7 +1,6 @@
 -- `write_own_guards`: behind the binder stands the number of the predicates.
-use Rattle.output.specs.Emit.{emits, Sends}
 use Rattle.smt_sort.specs.Section.{encoderIn}
-use Rattle.assertion.specs.Under.{keptText, ownText}
+use Rattle.assertion.specs.Under.{lists}
 use Rattle.assertion.proofs.Guards.{own-unbound, own-uncounted, own-runs}
 use borrow.Author.Needs.{needs}
 use Rattle.assertion.proofs.write_own_guards.Statement.{statement}
@@ -17,8 +16,7 @@ enum-told : tie.Need-enum-told
 enum-told c = search needs
 
 returns : tie.Need-returns
-unfolding Sends ownText
-returns c = own-unbound (λ w ps. emits w (keptText (encoderIn (c .before .before .before .before .before .before .args .s .now) (c .before .before .before .before .before .before .args .enc .now)) ps)) _ _ _ _ _ (c .before .before .check-binder .ensures) _ (c .enum-told .given .1)
+returns c = own-unbound (lists (encoderIn (c .before .before .before .before .before .before .args .s .now) (c .before .before .before .before .before .before .args .enc .now))) _ _ _ _ _ (c .before .before .check-binder .ensures) _ (c .enum-told .given .1)
 
 number-at-requires : tie.Need-number-at-requires
 number-at-requires c κs = search needs
@@ -30,8 +28,7 @@ enum-told-2 : tie.Need-enum-told-2
 enum-told-2 c = search needs
 
 returns-2 : tie.Need-returns-2
-unfolding Sends ownText
-returns-2 c = own-uncounted (λ w ps. emits w (keptText (encoderIn (c .before .before .before .before .before .before .before .before .before .before .args .s .now) (c .before .before .before .before .before .before .before .before .before .before .args .enc .now)) ps)) _ _ _ _ _ (c .before .before .before .before .before .before .check-binder .ensures) _ _ (c .before .before .before .before .binder .given .1) _ (c .before .before .number-at .ensures) (c .enum-told2 .given .1)
+returns-2 c = own-uncounted (lists (encoderIn (c .before .before .before .before .before .before .before .before .before .before .args .s .now) (c .before .before .before .before .before .before .before .before .before .before .args .enc .now))) _ _ _ _ _ (c .before .before .before .before .before .before .check-binder .ensures) _ _ (c .before .before .before .before .binder .given .1) _ (c .before .before .number-at .ensures) (c .enum-told2 .given .1)
 
 write-kept-requires : tie.Need-write-kept-requires
 write-kept-requires c κs = search needs
@@ -40,8 +37,7 @@ same-length : tie.Need-same-length
 same-length c = search needs
 
 returns-3 : tie.Need-returns-3
-unfolding Sends ownText
-returns-3 c = own-runs (λ w ps. emits w (keptText (encoderIn (c .before .before .before .before .before .before .before .before .before .before .before .before .before .before .before .before .args .s .now) (c .before .before .before .before .before .before .before .before .before .before .before .before .before .before .before .before .args .enc .now)) ps)) _ _ _ _ _ (c .before .before .before .before .before .before .before .before .before .before .before .before .check-binder .ensures) _ _ (c .before .before .before .before .before .before .before .before .before .before .binder .given .1) _ (c .before .before .before .before .before .before .before .before .number-at .ensures) _ _ (c .before .before .before .before .before .before .number .given .1) (λ ps r e. c .before .before .before .write-kept .ensures ps r e .1)
+returns-3 c = own-runs (lists (encoderIn (c .before .before .before .before .before .before .before .before .before .before .before .before .before .before .before .args .s .now) (c .before .before .before .before .before .before .before .before .before .before .before .before .before .before .before .args .enc .now))) _ _ _ _ _ (c .before .before .before .before .before .before .before .before .before .before .before .check-binder .ensures) _ _ (c .before .before .before .before .before .before .before .before .before .binder .given .1) _ (c .before .before .before .before .before .before .before .number-at .ensures) _ _ (c .before .before .before .before .before .number .given .1) (λ ps r e. c .before .before .write-kept .ensures ps r e .1)
 
 pub write-own-guards-spec : {M : Type 1} → statement M
 write-own-guards-spec =

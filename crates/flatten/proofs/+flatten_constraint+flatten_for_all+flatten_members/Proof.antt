@@ -1,16 +1,17 @@
--- The walk over a constraint: each piece puts its parts, and the levels left fall from a constraint to those in it.
+-- The walk over a constraint: each piece puts its parts and hands back the numbers that it was given, and the levels left fall from a constraint to
+-- those in it.
 use native.Mathlib.Omega.{arith}
 use borrow.Author.Needs.{needs}
-use mathlib.Core.Path.{_≡_, refl}
+use mathlib.Core.Path.{_≡_, refl, _∙_}
 use Prim.Native.Nat.{_+_, _*_}
 use lib.ListN.{length}
 use Rattle.path.specs.Offsets.{entries}
 use Rattle.smt_sort.specs.Section.{encoderIn}
 use Rattle.assertion.specs.Under.{onPath}
 use Rattle.assertion.specs.Kept.{Stays}
-use Rattle.assertion.proofs.Keeping.{stays-same, stays-then, keeps-stays}
+use Rattle.assertion.proofs.Keeping.{stays-same, stays-kept, stays-then}
 use Rattle.flatten.specs.Parts.{writing}
-use Rattle.flatten.proofs.Flattening.{none-left, node-pred, node-conj, node-for-all, node-refused, Members, members-start, members-more, members-end, for-all-unheaded, for-all-puts, header-offset, light-stands, light-puts, ready-fewer, ready-stays, ready-pushed, stays-inside}
+use Rattle.flatten.proofs.Flattening.{puts-at, none-left, node-pred, node-conj, node-for-all, node-refused, Members, members-start, members-more, members-end, for-all-unheaded, for-all-puts, header-offset, kept-head-known, enough-same, kept-head-stands, kept-head-puts, ready-fewer, ready-stays, own-added, ready-pushed, stays-inside, own-within, own-back}
 use Prim.Native.Nat.{ℕ, _<_}
 use borrow.Fn.Kinds.{In}
 use borrow.Fn.PlainCycle.{Measures, is, falls, and}
@@ -24,13 +25,18 @@ use Rattle.flatten.proofs.flatten_members.Reads as flatten-members
 use Rattle.flatten.proofs.flatten_members.Kinds as flatten-members-kinds
 use Rattle.flatten.proofs.+flatten_constraint+flatten_for_all+flatten_members.Lts-flatten_members as flatten-members-lts
 use Rattle.assertion.proofs.extend.Reads as extend-reads
-use Rattle.flatten.proofs.Moved.row.Reads as row-reads
-use Rattle.flatten.proofs.Moved.to.Reads as to-reads
+use Rattle.constraint_check.proofs.check_header.Reads as check-header-reads
+use Rattle.flatten.proofs.Moved.to.Reads as Moved-to-reads
+use Rattle.flatten.proofs.Walk.behind.Reads as behind-reads
+use Rattle.flatten.proofs.Walk.down.Reads as down-reads
+use Rattle.flatten.proofs.Walk.row.Reads as row-reads
+use Rattle.flatten.proofs.Walk.to.Reads as Walk-to-reads
+use Rattle.flatten.proofs.Walk.up.Reads as up-reads
 use Rattle.flatten.proofs.flatten_head.Reads as flatten-head-reads
 use Rattle.flatten.proofs.flatten_kept_head.Reads as flatten-kept-head-reads
-use Rattle.flatten.proofs.is_light.Reads as is-light-reads
-use Rattle.flatten.proofs.Around.push.Reads as push-reads
-use Rattle.constraint_check.proofs.check_header.Reads as check-header-reads
+use Rattle.flatten.proofs.is_enough.Reads as is-enough-reads
+use Rattle.flatten.proofs.is_kept_head.Reads as is-kept-head-reads
+use Rattle.path.proofs.Path.push.Reads as push-reads
 use Rattle.task.proofs.read_constraint_node.Reads as read-constraint-node-reads
 use Rattle.flatten.proofs.+flatten_constraint+flatten_for_all+flatten_members.{statement}
 use Rattle.flatten.proofs.+flatten_constraint+flatten_for_all+flatten_members.Tie.{close}
@@ -94,92 +100,98 @@ flatten-members-below t =
 
 -- what the calls in it ask and give
 abbrev flatten-constraint-calls : ℕ → flatten-constraint-lts.Claims
-flatten-constraint-calls t = (read-constraint-node-reads.Asked, read-constraint-node-reads.Learnt, to-reads.Asked, to-reads.Learnt, flatten-head-reads.Asked, flatten-head-reads.Learnt, row-reads.Asked, row-reads.Learnt, flatten-members-below t, flatten-members.Post, flatten-for-all-below t, flatten-for-all.Post)
+flatten-constraint-calls t = (read-constraint-node-reads.Asked, read-constraint-node-reads.Learnt, Walk-to-reads.Asked, Walk-to-reads.Learnt, flatten-head-reads.Asked, flatten-head-reads.Learnt, behind-reads.Asked, behind-reads.Learnt, row-reads.Asked, row-reads.Learnt, flatten-members-below t, flatten-members.Post, flatten-for-all-below t, flatten-for-all.Post)
 
 -- what the calls in it ask and give
 abbrev flatten-for-all-calls : ℕ → flatten-for-all-lts.Claims
-flatten-for-all-calls t = (check-header-reads.Asked, check-header-reads.Learnt, extend-reads.Asked, extend-reads.Learnt, push-reads.Asked, push-reads.Learnt, to-reads.Asked, to-reads.Learnt, flatten-constraint-below t, flatten-constraint.Post)
+flatten-for-all-calls t = (check-header-reads.Asked, check-header-reads.Learnt, extend-reads.Asked, extend-reads.Learnt, push-reads.Asked, push-reads.Learnt, down-reads.Asked, down-reads.Learnt, flatten-constraint-below t, flatten-constraint.Post, up-reads.Asked, up-reads.Learnt)
 
 -- what the calls in it ask and give
 abbrev flatten-members-calls : ℕ → flatten-members-lts.Claims
-flatten-members-calls t = (is-light-reads.Asked, is-light-reads.Learnt, to-reads.Asked, to-reads.Learnt, flatten-kept-head-reads.Asked, flatten-kept-head-reads.Learnt, flatten-constraint-below t, flatten-constraint.Post)
+flatten-members-calls t = (is-enough-reads.Asked, is-enough-reads.Learnt, is-kept-head-reads.Asked, is-kept-head-reads.Learnt, Moved-to-reads.Asked, Moved-to-reads.Learnt, flatten-kept-head-reads.Asked, flatten-kept-head-reads.Learnt, flatten-constraint-below t, flatten-constraint.Post)
 
 flatten-constraint-returns : (t : ℕ) → flatten-constraint-lts.Need-returns (flatten-constraint-calls t) (flatten-constraint-at t) flatten-constraint.Post
-flatten-constraint-returns t c = (none-left _ _ _ _ _ _ _ _ _ _ (c .if1 .taken), stays-same _ _)
+flatten-constraint-returns t c = (none-left _ _ _ _ _ _ _ _ _ _ (c .if1 .taken), (refl, stays-same _ _))
 
 flatten-constraint-flatten-head-requires : (t : ℕ) → flatten-constraint-lts.Need-flatten-head-requires (flatten-constraint-calls t) (flatten-constraint-at t) flatten-constraint.Post
-flatten-constraint-flatten-head-requires t c κs = ready-fewer _ _ _ _ _ (c .before .before .before .before .before .before .before .before .before .before .before .before .pre .1) _ (omega arith)
+flatten-constraint-flatten-head-requires t c κs = ready-fewer _ _ _ _ _ _ (c .before .before .before .before .before .before .before .before .before .before .before .before .before .pre .1) _ _ (omega arith) (c .before .before .to .ensures .2)
 
 flatten-constraint-flatten-members-requires : (t : ℕ) → flatten-constraint-lts.Need-flatten-members-requires (flatten-constraint-calls t) (flatten-constraint-at t) flatten-constraint.Post
-flatten-constraint-flatten-members-requires t c κs = let far = c .before .before .before .before .before .before .before .before .before .before .before .before .pre .0 in (omega arith, ready-fewer _ _ _ _ _ (c .before .before .before .before .before .before .before .before .before .before .before .before .pre .1) _ (omega arith))
+flatten-constraint-flatten-members-requires t c κs = let far = c .before .before .before .before .before .before .before .before .before .before .before .before .before .pre .0 in (omega arith, ready-fewer _ _ _ _ _ _ (c .before .before .before .before .before .before .before .before .before .before .before .before .before .pre .1) _ _ (omega arith) (c .before .before .row .ensures .2))
 
 flatten-constraint-flatten-for-all-requires : (t : ℕ) → flatten-constraint-lts.Need-flatten-for-all-requires (flatten-constraint-calls t) (flatten-constraint-at t) flatten-constraint.Post
-flatten-constraint-flatten-for-all-requires t c κs = let far = c .before .before .before .before .before .before .before .before .before .before .before .before .pre .0 in (omega arith, ready-fewer _ _ _ _ _ (c .before .before .before .before .before .before .before .before .before .before .before .before .pre .1) _ (omega arith))
+flatten-constraint-flatten-for-all-requires t c κs = let far = c .before .before .before .before .before .before .before .before .before .before .before .before .before .pre .0 in (omega arith, ready-fewer _ _ _ _ _ _ (c .before .before .before .before .before .before .before .before .before .before .before .before .before .pre .1) _ _ (omega arith) (c .before .before .to2 .ensures .2))
 
 flatten-constraint-returns-2 : (t : ℕ) → flatten-constraint-lts.Need-returns-2 (flatten-constraint-calls t) (flatten-constraint-at t) flatten-constraint.Post
-flatten-constraint-returns-2 t c = (node-pred _ _ _ _ _ _ _ _ _ _ _ (c .before .before .before .before .before .before .before .before .before .before .if1 .left) (c .before .before .before .before .before .before .before .before .before .read-constraint-node .ensures) _ _ (c .before .before .before .before .before .before .before .node .given .1) (c .before .before .before .before .before .to .ensures) (c .before .before .flatten-head .ensures), stays-same _ _)
+flatten-constraint-returns-2 t c = (puts-at _ _ _ _ _ _ _ _ (c .behind .ensures .0) (node-pred _ _ _ _ _ _ _ _ _ _ _ (c .before .before .before .before .before .before .before .before .before .before .before .before .if1 .left) (c .before .before .before .before .before .before .before .before .before .before .read-constraint-node .ensures) _ _ (c .before .before .before .before .before .before .before .before .node .given .1) (c .before .before .before .before .before .before .to .ensures .0, c .before .before .before .before .before .before .to .ensures .1) (c .before .before .before .flatten-head .ensures)), (c .behind .ensures .1, stays-same _ _))
 
 flatten-constraint-returns-3 : (t : ℕ) → flatten-constraint-lts.Need-returns-3 (flatten-constraint-calls t) (flatten-constraint-at t) flatten-constraint.Post
-flatten-constraint-returns-3 t c = (node-conj _ _ _ _ _ _ _ _ _ _ _ (c .before .before .before .before .before .before .before .before .before .before .before .before .if1 .left) (c .before .before .before .before .before .before .before .before .before .before .before .read-constraint-node .ensures) _ _ _ (c .before .before .before .before .before .before .before .before .before .node2 .given .1) (c .before .before .before .before .before .before .before .row .ensures) (c .before .before .before .before .flatten-members .ensures .0), c .before .before .before .before .flatten-members .ensures .1)
+flatten-constraint-returns-3 t c = (node-conj _ _ _ _ _ _ _ _ _ _ _ (c .before .before .before .before .before .before .before .before .before .before .before .before .before .if1 .left) (c .before .before .before .before .before .before .before .before .before .before .before .read-constraint-node .ensures) _ _ _ _ (c .before .before .before .before .before .before .before .before .before .node2 .given .1) (c .before .before .before .before .before .before .before .row .ensures) (c .before .before .before .before .flatten-members .ensures .0), (c .before .before .before .before .flatten-members .ensures .1 .0 ∙ c .before .before .before .before .before .before .before .row .ensures .2, stays-kept _ _ _ _ (c .before .before .before .before .before .before .before .row .ensures .2) (c .before .before .before .before .flatten-members .ensures .1 .1)))
 
 flatten-constraint-returns-4 : (t : ℕ) → flatten-constraint-lts.Need-returns-4 (flatten-constraint-calls t) (flatten-constraint-at t) flatten-constraint.Post
-flatten-constraint-returns-4 t c = (node-for-all _ _ _ _ _ _ _ _ _ _ _ (c .before .before .before .before .before .before .before .before .before .before .before .before .if1 .left) (c .before .before .before .before .before .before .before .before .before .before .before .read-constraint-node .ensures) _ _ (c .before .before .before .before .before .before .before .before .before .node3 .given .1) (c .before .before .before .before .before .before .before .to2 .ensures) (c .before .before .before .before .flatten-for-all .ensures .0), c .before .before .before .before .flatten-for-all .ensures .1)
+flatten-constraint-returns-4 t c = (node-for-all _ _ _ _ _ _ _ _ _ _ _ (c .before .before .before .before .before .before .before .before .before .before .before .before .before .if1 .left) (c .before .before .before .before .before .before .before .before .before .before .before .read-constraint-node .ensures) _ _ (c .before .before .before .before .before .before .before .before .before .node3 .given .1) (c .before .before .before .before .before .before .before .to2 .ensures .0, c .before .before .before .before .before .before .before .to2 .ensures .1) (c .before .before .before .before .flatten-for-all .ensures .0), (c .before .before .before .before .flatten-for-all .ensures .1 .0 ∙ c .before .before .before .before .before .before .before .to2 .ensures .2, stays-kept _ _ _ _ (c .before .before .before .before .before .before .before .to2 .ensures .2) (c .before .before .before .before .flatten-for-all .ensures .1 .1)))
 
 flatten-constraint-returns-5 : (t : ℕ) → flatten-constraint-lts.Need-returns-5 (flatten-constraint-calls t) (flatten-constraint-at t) flatten-constraint.Post
-flatten-constraint-returns-5 t c = (node-refused _ _ _ _ _ _ _ _ _ _ _ (c .before .before .before .if1 .left) (c .before .before .read-constraint-node .ensures) (c .enum-told .given .1), stays-same _ _)
+flatten-constraint-returns-5 t c = (node-refused _ _ _ _ _ _ _ _ _ _ _ (c .before .before .before .before .if1 .left) (c .before .before .read-constraint-node .ensures) (c .enum-told .given .1), (refl, stays-same _ _))
 
 flatten-for-all-returns : (t : ℕ) → flatten-for-all-lts.Need-returns (flatten-for-all-calls t) (flatten-for-all-at t) flatten-for-all.Post
-flatten-for-all-returns t c = (for-all-unheaded _ _ _ _ _ _ _ _ _ _ _ (c .before .before .check-header .ensures) _ (c .enum-told .given .1), stays-same _ _)
+flatten-for-all-returns t c = (for-all-unheaded _ _ _ _ _ _ _ _ _ _ _ (c .before .before .check-header .ensures) _ (c .enum-told .given .1), (refl, stays-same _ _))
 
 flatten-for-all-extend-requires : (t : ℕ) → flatten-for-all-lts.Need-extend-requires (flatten-for-all-calls t) (flatten-for-all-at t) flatten-for-all.Post
-flatten-for-all-extend-requires t c κs = (c .before .before .before .before .before .before .before .before .before .pre .1 .chained, c .before .before .before .before .before .before .before .before .before .pre .1 .keeps .fits)
+flatten-for-all-extend-requires t c κs = (c .before .before .before .before .before .before .before .before .before .before .pre .1 .chained, c .before .before .before .before .before .before .before .before .before .before .pre .1 .short)
 
 flatten-for-all-push-requires : (t : ℕ) → flatten-for-all-lts.Need-push-requires (flatten-for-all-calls t) (flatten-for-all-at t) flatten-for-all.Post
-flatten-for-all-push-requires t c κs = let room = c .before .before .before .before .before .before .before .before .before .before .before .before .pre .1 .leaves .within in (omega arith, header-offset _ _ _ _ _ _ (c .before .before .before .before .before .before .before .check-header .ensures) (c .before .before .before .before .before .header .given .1) (c .before .before .before .before .before .before .before .before .before .before .before .before .pre .1 .short))
+flatten-for-all-push-requires t c κs = let room = c .before .before .before .before .before .before .before .before .before .before .before .before .before .pre .1 .leaves .within in (omega arith, header-offset _ _ _ _ _ _ (c .before .before .before .before .before .before .before .check-header .ensures) (c .before .before .before .before .before .header .given .1) (c .before .before .before .before .before .before .before .before .before .before .before .before .before .pre .1 .short))
+
+flatten-for-all-down-requires : (t : ℕ) → flatten-for-all-lts.Need-down-requires (flatten-for-all-calls t) (flatten-for-all-at t) flatten-for-all.Post
+flatten-for-all-down-requires t c κs = own-added _ _ _ _ _ _ _ _ _ (c .before .before .before .before .before .before .before .before .before .before .before .before .before .before .pre .1) _ _ _ (c .before .before .before .before .before .before .before .before .check-header .ensures) (c .before .before .before .before .before .before .header .given .1) (c .before .before .before .extend .ensures) (c .before .before .before .before .before .before .before .before .before .before .before .before .before .shared-slice-known .given)
 
 flatten-for-all-flatten-constraint-requires : (t : ℕ) → flatten-for-all-lts.Need-flatten-constraint-requires (flatten-for-all-calls t) (flatten-for-all-at t) flatten-for-all.Post
-flatten-for-all-flatten-constraint-requires t c κs = let far = c .before .before .before .before .before .before .before .before .before .before .before .before .before .before .before .before .pre .0 in (omega arith, ready-pushed _ _ _ _ _ _ _ _ _ (c .before .before .before .before .before .before .before .before .before .before .before .before .before .before .before .before .pre .1) (c .before .before .before .push .ensures) (c .before .before .before .before .before .before .extend .ensures))
+flatten-for-all-flatten-constraint-requires t c κs = let far = c .before .before .before .before .before .before .before .before .before .before .before .before .before .before .before .before .before .pre .0 in (omega arith, ready-pushed _ _ _ _ _ _ _ _ _ (c .before .before .before .before .before .before .before .before .before .before .before .before .before .before .before .before .before .pre .1) _ _ _ (c .before .before .before .before .before .before .before .before .before .before .before .check-header .ensures) (c .before .before .before .before .before .before .before .before .before .header .given .1) (c .before .before .before .before .before .before .extend .ensures) _ (c .before .before .down .ensures .2) _ (c .before .before .before .push .ensures))
+
+flatten-for-all-up-requires : (t : ℕ) → flatten-for-all-lts.Need-up-requires (flatten-for-all-calls t) (flatten-for-all-at t) flatten-for-all.Post
+flatten-for-all-up-requires t c κs = own-within _ _ _ _ (c .before .before .before .before .before .before .before .down .ensures .2) (c .before .before .before .before .flatten-constraint .ensures .1 .0)
 
 flatten-for-all-returns-2 : (t : ℕ) → flatten-for-all-lts.Need-returns-2 (flatten-for-all-calls t) (flatten-for-all-at t) flatten-for-all.Post
-flatten-for-all-returns-2 t c = let room = c .before .before .before .before .before .before .before .before .before .before .before .before .before .before .before .before .before .before .before .before .before .pre .1 .leaves .within in (for-all-puts _ _ _ _ _ _ _ _ _ _ _ (c .before .before .before .before .before .before .before .before .before .before .before .before .before .before .before .before .check-header .ensures) _ _ _ _ (omega arith) (c .before .before .before .before .before .before .before .before .before .before .before .before .before .before .header .given .1) (c .before .before .before .before .before .before .before .before .push .ensures .1) (c .before .before .before .before .before .before .before .to .ensures) (c .before .before .before .before .flatten-constraint .ensures .0), stays-inside _ _ _ _ _ _ _ _ _ (c .before .before .before .before .before .before .before .before .before .before .before .extend .ensures) (c .before .before .before .before .before .before .before .before .push .ensures .0) (c .before .before .before .before .flatten-constraint .ensures .1))
+flatten-for-all-returns-2 t c = let room = c .before .before .before .before .before .before .before .before .before .before .before .before .before .before .before .before .before .before .before .before .before .before .before .pre .1 .leaves .within in (puts-at _ _ _ _ _ _ _ _ (c .up .ensures .0) (for-all-puts _ _ _ _ _ _ _ _ _ _ _ (c .before .before .before .before .before .before .before .before .before .before .before .before .before .before .before .before .before .check-header .ensures) _ _ _ _ (omega arith) (c .before .before .before .before .before .before .before .before .before .before .before .before .before .before .before .header .given .1) (c .before .before .before .before .before .before .before .before .before .push .ensures .0) (c .before .before .before .before .before .before .before .before .down .ensures .0, c .before .before .before .before .before .before .before .before .down .ensures .1) (c .before .before .before .before .before .flatten-constraint .ensures .0)), (own-back _ _ _ _ _ (c .before .before .before .before .before .before .before .before .down .ensures .2) (c .before .before .before .before .before .flatten-constraint .ensures .1 .0) (c .up .ensures .1), stays-inside _ _ _ _ _ _ _ _ _ (c .before .before .before .before .before .before .before .before .before .before .before .before .before .before .before .before .before .before .before .before .before .before .before .pre .1) _ _ _ (c .before .before .before .before .before .before .before .before .before .before .before .before .before .before .before .before .before .check-header .ensures) (c .before .before .before .before .before .before .before .before .before .before .before .before .before .before .before .header .given .1) (c .before .before .before .before .before .before .before .before .before .before .before .before .extend .ensures) _ (c .before .before .before .before .before .before .before .before .down .ensures .2) _ (c .before .before .before .before .before .flatten-constraint .ensures .1 .1)))
 
 abbrev flatten-members-Inv-loop : flatten-members-lts.InvT-loop
-flatten-members-Inv-loop s levels around enc range buf₀ text₀ kept walk₀ left₀ buf text walk left =
-    Members (encoderIn s enc) range (onPath s (entries (around .path))) levels s left₀ (walk₀ .at) (writing (walk₀ .progress) buf₀) left (walk .at) (writing (walk .progress) buf)
-    × Stays (around .kept) text₀ text × (length buf ≡ length buf₀)
+flatten-members-Inv-loop s levels path enc range buf₀ text₀ moved₀ kept₀ left₀ enough buf text moved kept left =
+    Members (encoderIn s enc) range (onPath s (entries path)) levels s left₀ (moved₀ .at) (writing (moved₀ .progress) buf₀) left (moved .at) (writing (moved .progress) buf)
+    × (kept ≡ kept₀) × Stays kept₀ text₀ text × (length buf ≡ length buf₀)
 
 abbrev flatten-members-μ-loop : flatten-members-lts.MeasureT-loop
-flatten-members-μ-loop s levels around enc range buf₀ text₀ kept walk₀ left₀ buf text walk left = left
+flatten-members-μ-loop s levels path enc range buf₀ text₀ moved₀ kept₀ left₀ enough buf text moved kept left = left
 
 flatten-members-loop-holds : (t : ℕ) → flatten-members-lts.Need-loop-holds (flatten-members-calls t) (flatten-members-at t) flatten-members.Post flatten-members-Inv-loop flatten-members-μ-loop
-flatten-members-loop-holds t c = (members-start _ _ _ _ _ _ _ _, stays-same _ _, refl)
+flatten-members-loop-holds t c = (members-start _ _ _ _ _ _ _ _, refl, stays-same _ _, refl)
 
 flatten-members-add-to : (t : ℕ) → flatten-members-lts.Need-add-to (flatten-members-calls t) (flatten-members-at t) flatten-members.Post flatten-members-Inv-loop flatten-members-μ-loop
-flatten-members-add-to t c = let h = light-stands (c .before .before .before .before .before .before .before .before .before .before .args .levels) (c .before .before .before .before .before .before .before .before .before .before .args .s .now) (c .before .before .before .loop .walk .at) (c .before .before .before .before .before .before .before .before .before .before .args .around .kept .has) _ (c .before .is-light .ensures) (c .if1 .taken) .1 in let l = c .before .before .before .before .before .before .before .before .before .before .pre .1 .short in omega arith
+flatten-members-add-to t c = let h = kept-head-stands (c .before .before .before .before .before .before .before .before .before .before .before .before .args .levels) (c .before .before .before .before .before .before .before .before .before .before .before .before .args .s .now) (c .before .before .before .loop .moved .at) (c .before .before .before .before .is-enough .result) _ (c .before .is-kept-head .ensures) (c .if1 .taken) .1 in let l = c .before .before .before .before .before .before .before .before .before .before .before .before .pre .1 .short in omega arith
 
 flatten-members-sub-flatten-kept-head : (t : ℕ) → flatten-members-lts.Need-sub-flatten-kept-head (flatten-members-calls t) (flatten-members-at t) flatten-members.Post flatten-members-Inv-loop flatten-members-μ-loop
-flatten-members-sub-flatten-kept-head t c = let h = light-stands (c .before .before .before .before .before .before .before .before .before .before .before .args .levels) (c .before .before .before .before .before .before .before .before .before .before .before .args .s .now) (c .before .before .before .before .loop .walk .at) (c .before .before .before .before .before .before .before .before .before .before .before .args .around .kept .has) _ (c .before .before .is-light .ensures) (c .before .if1 .taken) .0 in omega arith
+flatten-members-sub-flatten-kept-head t c = let h = kept-head-stands (c .before .before .before .before .before .before .before .before .before .before .before .before .before .args .levels) (c .before .before .before .before .before .before .before .before .before .before .before .before .before .args .s .now) (c .before .before .before .before .loop .moved .at) (c .before .before .before .before .before .is-enough .result) _ (c .before .before .is-kept-head .ensures) (c .before .if1 .taken) .0 in omega arith
 
 flatten-members-flatten-kept-head-requires : (t : ℕ) → flatten-members-lts.Need-flatten-kept-head-requires (flatten-members-calls t) (flatten-members-at t) flatten-members.Post flatten-members-Inv-loop flatten-members-μ-loop
-flatten-members-flatten-kept-head-requires t c κs = (c .before .before .before .before .before .before .before .before .before .before .before .before .before .pre .1 .chained, keeps-stays _ _ _ _ _ _ (c .before .before .before .before .before .before .before .before .before .before .before .before .before .pre .1 .keeps) (c .before .before .before .before .before .before .loop .inv .1) .fits)
+flatten-members-flatten-kept-head-requires t c κs = (c .before .before .before .before .before .before .before .before .before .before .before .before .before .before .before .pre .1 .chained, enough-same _ _ _ _ _ _ _ (c .before .before .before .before .before .before .before .is-enough .ensures) (kept-head-known (c .before .before .before .before .before .before .before .before .before .before .before .before .before .before .before .args .levels) (c .before .before .before .before .before .before .before .before .before .before .before .before .before .before .before .args .s .now) (c .before .before .before .before .before .before .loop .moved .at) (c .before .before .before .before .before .before .before .is-enough .result) _ (c .before .before .before .before .is-kept-head .ensures) (c .before .before .before .if1 .taken)) (c .before .before .before .before .before .before .loop .inv .2 .size) (c .before .before .before .before .before .before .loop .inv .3) (c .before .before .before .before .before .before .loop .inv .1))
 
 flatten-members-loop-again : (t : ℕ) → flatten-members-lts.Need-loop-again (flatten-members-calls t) (flatten-members-at t) flatten-members.Post flatten-members-Inv-loop flatten-members-μ-loop
-flatten-members-loop-again t c = (members-more _ _ _ _ _ _ _ _ _ _ _ _ _ (c .before .before .before .before .before .before .before .before .loop-test .taken) (c .before .before .before .before .before .before .before .before .before .loop .inv .0) (light-puts _ _ _ _ _ (c .before .before .before .before .before .before .before .is-light .ensures) (c .before .before .before .before .before .before .if1 .taken) _ _ _ _ _ _ _ _ _ _ refl refl (keeps-stays _ _ _ _ _ _ (c .before .before .before .before .before .before .before .before .before .before .before .before .before .before .before .before .pre .1 .keeps) (c .before .before .before .before .before .before .before .before .before .loop .inv .1)) (c .before .before .before .before .before .to .ensures) (c .before .before .flatten-kept-head .ensures)), c .before .before .before .before .before .before .before .before .before .loop .inv .1, search needs)
+flatten-members-loop-again t c = (members-more _ _ _ _ _ _ _ _ _ _ _ _ _ (c .before .before .before .before .before .before .before .before .loop-test .taken) (c .before .before .before .before .before .before .before .before .before .loop .inv .0) (kept-head-puts (c .before .before .before .before .before .before .before .before .before .before .before .before .before .before .before .before .before .before .args .levels) (c .before .before .before .before .before .before .before .before .before .before .before .before .before .before .before .before .before .before .args .s .now) (c .before .before .before .before .before .before .before .before .before .loop .moved .at) (c .before .before .before .before .before .before .before .before .before .before .is-enough .result) _ (c .before .before .before .before .before .before .before .is-kept-head .ensures) (c .before .before .before .before .before .before .if1 .taken) _ _ _ _ _ _ _ _ _ _ _ _ refl (ready-stays _ _ _ _ _ _ (c .before .before .before .before .before .before .before .before .before .before .before .before .before .before .before .before .before .before .pre .1) _ _ (c .before .before .before .before .before .before .before .before .before .loop .inv .2) (c .before .before .before .before .before .before .before .before .before .loop .inv .1) .stands) (ready-stays _ _ _ _ _ _ (c .before .before .before .before .before .before .before .before .before .before .before .before .before .before .before .before .before .before .pre .1) _ _ (c .before .before .before .before .before .before .before .before .before .loop .inv .2) (c .before .before .before .before .before .before .before .before .before .loop .inv .1) .keeps) (c .before .before .before .before .before .to .ensures) (c .before .before .flatten-kept-head .ensures)), c .before .before .before .before .before .before .before .before .before .loop .inv .1, c .before .before .before .before .before .before .before .before .before .loop .inv .2, search needs)
 
 flatten-members-flatten-constraint-requires : (t : ℕ) → flatten-members-lts.Need-flatten-constraint-requires (flatten-members-calls t) (flatten-members-at t) flatten-members.Post flatten-members-Inv-loop flatten-members-μ-loop
-flatten-members-flatten-constraint-requires t c κs = let far = c .before .before .before .before .before .before .before .before .before .before .before .before .pre .0 in (omega arith, ready-stays _ _ _ _ _ (c .before .before .before .before .before .before .before .before .before .before .before .before .pre .1) _ (c .before .before .before .before .before .loop .inv .1))
+flatten-members-flatten-constraint-requires t c κs = let far = c .before .before .before .before .before .before .before .before .before .before .before .before .before .before .pre .0 in (omega arith, ready-stays _ _ _ _ _ _ (c .before .before .before .before .before .before .before .before .before .before .before .before .before .before .pre .1) _ _ (c .before .before .before .before .before .loop .inv .2) (c .before .before .before .before .before .loop .inv .1))
 
 flatten-members-loop-again-2 : (t : ℕ) → flatten-members-lts.Need-loop-again-2 (flatten-members-calls t) (flatten-members-at t) flatten-members.Post flatten-members-Inv-loop flatten-members-μ-loop
-flatten-members-loop-again-2 t c = (members-more _ _ _ _ _ _ _ _ _ _ _ _ _ (c .before .before .before .before .before .before .before .before .before .loop-test .taken) (c .before .before .before .before .before .before .before .before .before .before .loop .inv .0) (c .before .before .before .before .flatten-constraint .ensures .0), stays-then _ _ _ _ (c .before .before .before .before .before .before .before .before .before .before .loop .inv .1) (c .before .before .before .before .flatten-constraint .ensures .1), search needs)
+flatten-members-loop-again-2 t c = (members-more _ _ _ _ _ _ _ _ _ _ _ _ _ (c .before .before .before .before .before .before .before .before .before .before .before .loop-test .taken) (c .before .before .before .before .before .before .before .before .before .before .before .before .loop .inv .0) (c .before .before .before .before .before .before .flatten-constraint .ensures .0), c .before .before .before .before .before .before .flatten-constraint .ensures .1 .0 ∙ c .before .before .before .before .before .before .before .before .before .before .before .before .loop .inv .1, stays-then _ _ _ _ (c .before .before .before .before .before .before .before .before .before .before .before .before .loop .inv .2) (stays-kept _ _ _ _ (c .before .before .before .before .before .before .before .before .before .before .before .before .loop .inv .1) (c .before .before .before .before .before .before .flatten-constraint .ensures .1 .1)), search needs)
 
 flatten-members-same-length : (t : ℕ) → flatten-members-lts.Need-same-length (flatten-members-calls t) (flatten-members-at t) flatten-members.Post flatten-members-Inv-loop flatten-members-μ-loop
-flatten-members-same-length t c = c .before .loop .inv .2
+flatten-members-same-length t c = c .before .loop .inv .3
 
 flatten-members-same-length-2 : (t : ℕ) → flatten-members-lts.Need-same-length-2 (flatten-members-calls t) (flatten-members-at t) flatten-members.Post flatten-members-Inv-loop flatten-members-μ-loop
-flatten-members-same-length-2 t c = c .before .loop .inv .1 .size
+flatten-members-same-length-2 t c = c .before .loop .inv .2 .size
 
 flatten-members-returns : (t : ℕ) → flatten-members-lts.Need-returns (flatten-members-calls t) (flatten-members-at t) flatten-members.Post flatten-members-Inv-loop flatten-members-μ-loop
-flatten-members-returns t c = (members-end _ _ _ _ _ _ _ _ _ _ _ (c .loop-test .left) (c .before .loop .inv .0), c .before .loop .inv .1)
+flatten-members-returns t c = (members-end _ _ _ _ _ _ _ _ _ _ _ (c .loop-test .left) (c .before .loop .inv .0), (c .before .loop .inv .1, c .before .loop .inv .2))
 
 pub +flatten-constraint+flatten-for-all+flatten-members-spec : {M : Type 1} → statement M
 +flatten-constraint+flatten-for-all+flatten-members-spec =
@@ -195,6 +207,7 @@ pub +flatten-constraint+flatten-for-all+flatten-members-spec : {M : Type 1} → 
     (λ c. search needs)
     (λ c κs. search needs)
     (flatten-constraint-flatten-head-requires t)
+    (λ c κs. search needs)
     (λ c. search needs)
     (λ c κs. search needs)
     (flatten-constraint-flatten-members-requires t)
@@ -220,8 +233,9 @@ pub +flatten-constraint+flatten-for-all+flatten-members-spec : {M : Type 1} → 
     (flatten-for-all-returns t)
     (flatten-for-all-extend-requires t)
     (flatten-for-all-push-requires t)
-    (λ c κs. search needs)
+    (flatten-for-all-down-requires t)
     (flatten-for-all-flatten-constraint-requires t)
+    (flatten-for-all-up-requires t)
     (λ c. search needs)
     (λ c. search needs)
     (flatten-for-all-returns-2 t))
@@ -229,6 +243,7 @@ pub +flatten-constraint+flatten-for-all+flatten-members-spec : {M : Type 1} → 
     flatten-members.Post
     flatten-members-Inv-loop
     flatten-members-μ-loop
+    (λ c κs. search needs)
     (flatten-members-loop-holds t)
     (λ c. search needs)
     (λ c κs. search needs)

@@ -1,33 +1,35 @@
--- `flatten_head`: from what is kept, or from the path.
-use Rattle.assertion.specs.Under.{Counts}
+-- `flatten_head`: without the path, or from it.
+use mathlib.Core.Path.{sym, _∙_}
 use Rattle.path.proofs.Entries.{leaves-fewer}
 use native.Mathlib.Omega.{arith}
-use Rattle.flatten.proofs.Flattening.{kept-under, path-passed, path-wanted}
+use Rattle.flatten.proofs.Flattening.{kept-under, kept-numbers, path-passed, path-wanted}
 use borrow.Author.Needs.{needs}
 use Rattle.flatten.proofs.flatten_head.Statement.{statement}
 use Rattle.flatten.proofs.flatten_head.Tie as tie
 
+is-enough-requires : tie.Need-is-enough-requires
+is-enough-requires c κs = search needs
+
 flatten-kept-head-requires : tie.Need-flatten-kept-head-requires
-flatten-kept-head-requires c κs = (c .before .before .before .before .before .before .before .pre .chained, c .before .before .before .before .before .before .before .pre .keeps .fits)
+flatten-kept-head-requires c κs = (c .before .before .before .before .before .before .before .before .before .pre .chained, sym (c .before .before .is-enough .ensures) ∙ c .before .if1 .taken)
 
 same-length : tie.Need-same-length
 same-length c = search needs
 
 returns : tie.Need-returns
-returns c = kept-under _ _ _ _ _ _ _ _ _ _ (c .before .before .before .before .before .before .before .before .before .before .pre .keeps) (c .before .before .before .before .if1 .taken) (c .before .before .flatten-kept-head .ensures)
+returns c = kept-under _ _ _ _ _ _ _ _ _ _ _ _ (c .before .before .before .before .before .before .before .before .before .before .before .before .pre .stands) (c .before .before .before .before .before .before .before .before .before .before .before .before .pre .keeps) (c .before .before .flatten-kept-head .ensures)
 
 is-wanted-requires : tie.Need-is-wanted-requires
 is-wanted-requires c κs = search needs
 
 put-long-assert-requires : tie.Need-put-long-assert-requires
-unfolding Counts
-put-long-assert-requires c κs = ((c .before .before .before .before .before .before .before .before .before .before .pre .chained, leaves-fewer _ _ 0 (omega arith) (c .before .before .before .before .before .before .before .before .before .before .pre .leaves)), c .before .before .before .before .before .before .before .before .before .before .pre .keeps .counted)
+put-long-assert-requires c κs = ((c .before .before .before .before .before .before .before .before .before .before .before .before .pre .chained, leaves-fewer _ _ 0 (omega arith) (c .before .before .before .before .before .before .before .before .before .before .before .before .pre .leaves)), kept-numbers _ _ _ _ _ _ _ (c .before .before .before .before .before .before .before .before .before .before .before .before .pre .stands) (c .before .before .before .before .before .before .before .before .before .before .before .before .pre .keeps))
 
 same-length-2 : tie.Need-same-length-2
 same-length-2 c = search needs
 
 returns-2 : tie.Need-returns-2
-returns-2 c = path-wanted _ _ (c .before .before .before .before .before .before .before .before .before .before .before .before .before .args .from) _ (c .before .before .before .before .before .is-wanted .ensures) _ _ _ _ _ (c .before .before .before .before .if2 .taken) (c .before .before .put-long-assert .ensures)
+returns-2 c = path-wanted _ _ (c .before .before .before .before .before .before .before .before .before .before .before .before .before .before .before .args .from .moved) _ (c .before .before .before .before .before .is-wanted .ensures) _ _ _ _ _ (c .before .before .before .before .if2 .taken) (c .before .before .put-long-assert .ensures)
 
 pass-head-requires : tie.Need-pass-head-requires
 pass-head-requires c κs = search needs
@@ -39,6 +41,7 @@ pub flatten-head-spec : {M : Type 1} → statement M
 flatten-head-spec =
     tie.close
     (tie.spec
+    is-enough-requires
     flatten-kept-head-requires
     same-length
     returns

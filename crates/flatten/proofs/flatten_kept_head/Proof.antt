@@ -1,5 +1,8 @@
--- `flatten_kept_head`: the assertion of a head is put, or the head is passed.
-use Rattle.flatten.proofs.Flattening.{kept-passed, kept-wanted}
+-- `flatten_kept_head`: the head is passed, or its assertion is measured or put.
+use Rattle.assertion.proofs.Asserts.{not-set, set-is}
+use Rattle.flatten.proofs.Flattening.{kept-passed, measured-wanted, kept-wanted, enough-room}
+use native.Mathlib.Omega.{arith}
+use lib.ListN.{length}
 use borrow.Author.Needs.{needs}
 use Rattle.flatten.proofs.flatten_kept_head.Statement.{statement}
 use Rattle.flatten.proofs.flatten_kept_head.Tie as tie
@@ -7,28 +10,36 @@ use Rattle.flatten.proofs.flatten_kept_head.Tie as tie
 is-wanted-requires : tie.Need-is-wanted-requires
 is-wanted-requires c κs = search needs
 
+pass-head-requires : tie.Need-pass-head-requires
+pass-head-requires c κs = search needs
+
+returns : tie.Need-returns
+returns c = kept-passed _ _ _ _ (c .before .before .is-wanted .ensures) _ _ _ _ _ _ (not-set _ (c .before .if1 .taken)) (c .pass-head .ensures)
+
+measure-assert-requires : tie.Need-measure-assert-requires
+measure-assert-requires c κs = search needs
+
+returns-2 : tie.Need-returns-2
+returns-2 c = measured-wanted _ _ (c .before .before .before .before .before .before .before .before .before .args .from) _ (c .before .before .before .is-wanted .ensures) _ _ _ _ _ _ (set-is _ (c .before .before .if1 .left)) (let e = c .before .if2 .taken in omega arith) (c .measure-assert .ensures)
+
 put-assert-requires : tie.Need-put-assert-requires
-put-assert-requires c κs = search needs
+put-assert-requires c κs = (c .before .before .before .before .before .before .before .before .before .pre .0, enough-room (length (c .before .before .before .before .before .before .before .before .before .args .text .now)) (length (c .before .before .before .before .before .before .before .before .before .args .buf .now)) (c .before .before .before .before .before .before .before .before .before .args .kept) (c .before .before .before .before .before .before .before .before .before .pre .1) (c .before .if2 .left))
 
 same-length : tie.Need-same-length
 same-length c = search needs
 
-returns : tie.Need-returns
-returns c = kept-wanted _ _ (c .before .before .before .before .before .before .before .before .before .before .before .args .from) _ (c .before .before .before .before .before .is-wanted .ensures) _ _ _ _ _ _ _ (c .before .before .before .before .if1 .taken) (c .before .before .put-assert .ensures)
-
-pass-head-requires : tie.Need-pass-head-requires
-pass-head-requires c κs = search needs
-
-returns-2 : tie.Need-returns-2
-returns-2 c = kept-passed _ _ _ _ (c .before .before .is-wanted .ensures) _ _ _ _ _ _ (c .before .if1 .left) (c .pass-head .ensures)
+returns-3 : tie.Need-returns-3
+returns-3 c = kept-wanted _ _ (c .before .before .before .before .before .before .before .before .before .before .before .before .args .from) _ (c .before .before .before .before .before .before .is-wanted .ensures) _ _ _ _ _ _ _ (set-is _ (c .before .before .before .before .before .if1 .left)) (c .before .before .put-assert .ensures)
 
 pub flatten-kept-head-spec : {M : Type 1} → statement M
 flatten-kept-head-spec =
     tie.close
     (tie.spec
     is-wanted-requires
+    pass-head-requires
+    returns
+    measure-assert-requires
+    returns-2
     put-assert-requires
     same-length
-    returns
-    pass-head-requires
-    returns-2)
+    returns-3)

@@ -1,5 +1,6 @@
 -- `part`: there is no such part, it is too long, or it is written.
-use Rattle.smt_horn.proofs.Entries.{are-bytes, was-given, was-refused, part-none, part-long, part-done, part-refused}
+use Rattle.assertion.proofs.Short.{are-bytes}
+use Rattle.smt_horn.proofs.Entries.{was-given, was-refused, part-none, part-long, part-done, part-refused}
 use borrow.Author.Needs.{needs}
 use Rattle.smt_horn.proofs.part.Statement.{statement}
 use Rattle.smt_horn.proofs.part.Tie as tie

@@ -1,5 +1,6 @@
 -- `script`: it is too long, or it is written; what the buffer then holds carries demand 3.
-use Rattle.smt_horn.proofs.Entries.{are-bytes, was-given, was-refused, script-long, script-done, script-refused, promised}
+use Rattle.assertion.proofs.Short.{are-bytes}
+use Rattle.smt_horn.proofs.Entries.{was-given, was-refused, script-long, script-done, script-refused, promised}
 use borrow.Author.Needs.{needs}
 use Rattle.smt_horn.proofs.script.Statement.{statement}
 use Rattle.smt_horn.proofs.script.Tie as tie

@@ -1,5 +1,6 @@
 -- `survey`: what was measured of all parts.
-use Rattle.smt_horn.proofs.Entries.{are-bytes, was-given, was-refused, survey-found, survey-refused}
+use Rattle.assertion.proofs.Short.{are-bytes}
+use Rattle.smt_horn.proofs.Entries.{was-given, was-refused, survey-found, survey-refused}
 use borrow.Author.Needs.{needs}
 use Rattle.smt_horn.proofs.survey.Statement.{statement}
 use Rattle.smt_horn.proofs.survey.Tie as tie
