@@ -98,7 +98,7 @@ fn deep(quarters: usize) -> Vec<u8> {
     file
 }
 
-/// So many ForAlls with a guard each, whose text has 157 bytes and its coding 67: two numerals of 39 digits, and `str.prefixof` five times around one
+/// So many ForAlls with a guard each, whose text has 158 bytes and its coding 67: two numerals of 39 digits, and `str.prefixof` five times around one
 /// of them. In the innermost a Conj of as many heads that are literally false as fit.
 fn deep_guards(quarters: usize) -> Vec<u8> {
     let numeral = format!("0 {}", as_words(&[255; 16]));

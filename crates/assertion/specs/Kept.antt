@@ -92,6 +92,7 @@ pub record Extended (enc : Encoder) (f : ForAll) (kept : code.Kept) (text text' 
   pub vars : varsHalf text' ≡ sets (varsHalf text) (kept .vars) (ownVar enc f)
   pub guards : guardsHalf text' ≡ sets (guardsHalf text) (kept .guards) (ownText enc f)
 
+-- So it was with the ForAll at an offset, where one stands there.
 unfoldable pub Extends : List ℕ → List ℕ → ℕ → code.Kept → List ℕ → List ℕ → code.Kept → Type 0
 Extends s enc at kept text text' own = (f : ForAll) (p : ℕ) → forAllAt s at ≡ got f p → Extended (encoderIn s enc) f kept text text' own
 
