@@ -1,7 +1,7 @@
 -- What the loops over a path and over predicates add up to: binders that are sent, guards that are sent and counted.
 use mathlib.Core.Path.{_≡_, refl, sym, ap, _∙_, subst}
 use mathlib.Core.Bool.{Bool, true, false, cond, _&&_}
-use mathlib.Core.List.{List, [], _∷_, _++_, append-assoc}
+use mathlib.Core.List.{List, [], _∷_, _++_, append-nil, append-assoc}
 use Prim.Native.Nat.{ℕ, zero, suc, _+_, _-_, _<_, _≤_}
 use native.Mathlib.Numerals.{add-one}
 use native.Mathlib.Omega.{arith}
@@ -34,7 +34,7 @@ use Rattle.task.specs.Run.{Runs}
 use Rattle.task.proofs.Running.{runs-refused, runs-end, Steps, Owing, owing-start, owing-more, owing-end}
 use Rattle.output.specs.Emit.{Output, output, emit, emits, Sends}
 use Rattle.output.proofs.Sent.{emits-append}
-use Rattle.assertion.specs.Under.{forAllAt, onPath, varsText, keptText, ownVar, ownText, guardsText, Listing, listing, lists, trueAt}
+use Rattle.assertion.specs.Under.{forAllAt, onPath, varsText, keptText, guardsText, Listing, listing, lists, trueAt}
 
 -- PATHS
 
@@ -206,15 +206,15 @@ module _ (enc : Encoder) where
       step w p ps true e = rw e (same-listing refl (omega arith))
       step w p ps false e = rw e (same-listing (simp emits-append) (omega arith))
 
-  pub vars-steps : Steps [] _∷_ (λ (o : Output) (f : ForAll). emits o (ownVar enc f)) (λ o fs. emits o (varsText enc fs))
-  unfolding emits ownVar varsText
-  vars-steps = record { none = λ o. refl; step = λ o f fs. emits-append o (write-binder enc (f .binder)) _ }
+  pub vars-steps : Steps [] _∷_ (λ (o : Output) (f : ForAll). emits o (varsText enc (f ∷ []))) (λ o fs. emits o (varsText enc fs))
+  unfolding emits varsText
+  vars-steps = record { none = λ o. refl; step = λ o f fs. rw (append-nil (write-binder enc (f .binder))) (emits-append o (write-binder enc (f .binder)) _) }
 
-  pub guards-steps : Steps [] _∷_ (λ (o : Output) (f : ForAll). emits o (ownText enc f)) (λ o fs. emits o (guardsText enc fs))
-  unfolding emits ownText guardsText keptText
+  pub guards-steps : Steps [] _∷_ (λ (o : Output) (f : ForAll). emits o (guardsText enc (f ∷ []))) (λ o fs. emits o (guardsText enc fs))
+  unfolding emits guardsText
   guards-steps = record {
     none = λ o. refl;
-    step = λ o f fs. rw (preds-append, spaced-append) (emits-append o (spaced (write-preds enc (kept (f .preds)))) (spaced (write-preds enc (guardsOf fs))));
+    step = λ o f fs. rw (append-nil (kept (f .preds)), preds-append, spaced-append) (emits-append o (spaced (write-preds enc (kept (f .preds)))) (spaced (write-preds enc (guardsOf fs))));
   }
 
 -- AT AN OFFSET
@@ -251,11 +251,11 @@ parts s o f z e =
 
 -- its binder is sent
 pub binder-runs : (enc : Encoder) (s : List ℕ) (o : ℕ) (w w' : Output) (q : ℕ) → Sends (write-binder enc) (binder deepest s o) w w' q
-    → Sends (ownVar enc) (forAllAt s o) w w' 0
-unfolding Sends ownVar
+    → Sends (λ f. varsText enc (f ∷ [])) (forAllAt s o) w w' 0
+unfolding Sends varsText
 binder-runs enc s o w w' q u f z e =
     let i = parts s o f z e in
-    (sym (i .zero-is), u (f .binder) (i .p) (i .binds) .1)
+    (sym (i .zero-is), u (f .binder) (i .p) (i .binds) .1 ∙ rw (append-nil (write-binder enc (f .binder))))
 
 -- its predicates are run: behind the binder stands their number
 module _ {W : Type 0} (all : W → List Pred → W) (s : List ℕ) (o : ℕ) (w w' : W) (v : Walked) (e : v ≡ walked binderFault (binder deepest s o)) where
@@ -287,10 +287,10 @@ module _ {W : Type 0} (all : W → List Pred → W) (s : List ℕ) (o : ℕ) (w 
 
 -- what its guards were sent and counted as
 module _ (enc : Encoder) (d : Res ForAll) (b b' : List ℕ) (n n' k k' r : ℕ) (u : Runs (λ v f. lists enc v (f .preds)) d (listing b n k) (listing b' n' k') r) where
-  pub own-sent : Sends (ownText enc) d (output b n) (output b' n') r
-  unfolding Sends ownText lists
-  own-sent f p e = let v = u f p e in (v .0, ap (λ (w : Listing). w .out) (v .1))
+  pub own-sent : Sends (λ f. guardsText enc (f ∷ [])) d (output b n) (output b' n') r
+  unfolding Sends guardsText keptText lists
+  own-sent f p e = let v = u f p e in (v .0, ap (λ (w : Listing). w .out) (v .1) ∙ rw (append-nil (kept (f .preds))))
 
-  pub own-counted : (f : ForAll) (p : ℕ) → d ≡ got f p → k' ≡ k + length (kept (f .preds))
+  pub own-counted : (f : ForAll) (p : ℕ) → d ≡ got f p → k' ≡ k + length (guardsOf (f ∷ []))
   unfolding lists
-  own-counted f p e = ap (λ (w : Listing). w .count) (u f p e .1)
+  own-counted f p e = ap (λ (w : Listing). w .count) (u f p e .1) ∙ rw (append-nil (kept (f .preds)))

@@ -6,18 +6,18 @@ use Prim.Native.Nat.{ℕ, suc, _+_, _-_, _/_, _≤_, min}
 use native.Mathlib.Omega.{arith}
 use lib.ListN.{length, set, take, drop, length-append, length-take, length-drop, drop-of-length-le}
 use lib.Seq.{sets, sets-eq, length-sets, take-append-seam, take-take, take-at, drop-at, take-set-le, take-all}
+use Rattle.task.specs.Ast.{Pred}
 use Rattle.task.specs.Decode.{Res, got}
 use Rattle.smt_text.specs.Encoder.{Encoder}
-use Rattle.smt_text.specs.Text.{spaced, write-binder}
+use Rattle.smt_text.specs.Text.{write-binder}
 use Rattle.horn_text.specs.Clauses.{ForAll, kept, guardsOf}
 use Rattle.horn_text.specs.Script.{write-preds}
-use Rattle.horn_text.proofs.Places as places
 use Rattle.smt_sort.specs.Section.{encoderIn}
 use Rattle.output.specs.Emit.{output, most, Sends}
 use Rattle.output.proofs.Sent.{sent-lent}
 use Rattle.assertion.specs.declared.Kept as code
-use Rattle.assertion.specs.Under.{forAllAt, varsText, keptText, ownVar, ownText, guardsText}
-use Rattle.assertion.specs.Kept.{measured, measuredOwn, plus, minus, Within, varsHalf, guardsHalf, Begins, Keeps, Stays, Stores, Counts, Extended, Extends}
+use Rattle.assertion.specs.Under.{forAllAt, varsText, guardsText}
+use Rattle.assertion.specs.Kept.{measured, plus, minus, Within, varsHalf, guardsHalf, Begins, Keeps, Stays, Stores, Counts, Extended, Extends}
 use Rattle.assertion.proofs.Guards.{spaced-append, preds-append}
 
 -- THE NUMBERS
@@ -26,37 +26,32 @@ pub same-kept : {v v' g g' c c' : ℕ} → v ≡ v' → g ≡ g' → c ≡ c'
     → _≡_ {A = code.Kept} (record { vars = v; guards = g; count = c }) (record { vars = v'; guards = g'; count = c' })
 same-kept p q r = λ i. record { vars = p i; guards = q i; count = r i }
 
-vars-snoc : (enc : Encoder) (fs : List ForAll) (f : ForAll) → varsText enc (fs ++ f ∷ []) ≡ varsText enc fs ++ ownVar enc f
-unfolding varsText ownVar
-vars-snoc enc [] f = append-nil (write-binder enc (f .binder))
-vars-snoc enc (g ∷ fs) f =
-    ap (λ (w : List ℕ). write-binder enc (g .binder) ++ w) (vars-snoc enc fs f)
-    ∙ sym (append-assoc (write-binder enc (g .binder)) (varsText enc fs) (write-binder enc (f .binder)))
+-- texts of more ForAlls stand behind those of the others
+vars-append : (enc : Encoder) (fs gs : List ForAll) → varsText enc (fs ++ gs) ≡ varsText enc fs ++ varsText enc gs
+unfolding varsText
+vars-append enc [] gs = refl
+vars-append enc (f ∷ fs) gs =
+    ap (λ (w : List ℕ). write-binder enc (f .binder) ++ w) (vars-append enc fs gs)
+    ∙ sym (append-assoc (write-binder enc (f .binder)) (varsText enc fs) (varsText enc gs))
 
-pub guards-cons : (enc : Encoder) (f : ForAll) (fs : List ForAll) → guardsText enc (f ∷ fs) ≡ ownText enc f ++ guardsText enc fs
-unfolding ownText guardsText keptText
-guards-cons enc f fs = ap spaced (preds-append enc (kept (f .preds)) (guardsOf fs)) ∙ spaced-append (write-preds enc (kept (f .preds))) (write-preds enc (guardsOf fs))
+all-append : (fs gs : List ForAll) → guardsOf (fs ++ gs) ≡ guardsOf fs ++ guardsOf gs
+all-append [] gs = refl
+all-append (f ∷ fs) gs = ap (λ (ps : List Pred). kept (f .preds) ++ ps) (all-append fs gs) ∙ sym (append-assoc (kept (f .preds)) (guardsOf fs) (guardsOf gs))
 
-guards-none : (enc : Encoder) → guardsText enc [] ≡ []
+guards-append : (enc : Encoder) (fs gs : List ForAll) → guardsText enc (fs ++ gs) ≡ guardsText enc fs ++ guardsText enc gs
 unfolding guardsText
-guards-none enc = refl
+guards-append enc fs gs = rw (all-append fs gs, preds-append enc (guardsOf fs) (guardsOf gs)) (spaced-append (write-preds enc (guardsOf fs)) (write-preds enc (guardsOf gs)))
 
-guards-snoc : (enc : Encoder) (fs : List ForAll) (f : ForAll) → guardsText enc (fs ++ f ∷ []) ≡ guardsText enc fs ++ ownText enc f
-guards-snoc enc [] f = guards-cons enc f [] ∙ rw (guards-none enc) (append-nil (ownText enc f))
-guards-snoc enc (g ∷ fs) f =
-    guards-cons enc g (fs ++ f ∷ []) ∙ ap (λ (w : List ℕ). ownText enc g ++ w) (guards-snoc enc fs f)
-    ∙ sym (append-assoc (ownText enc g) (guardsText enc fs) (ownText enc f)) ∙ ap (λ (w : List ℕ). w ++ ownText enc f) (sym (guards-cons enc g fs))
-
--- those of a path with one ForAll more
-measured-snoc : (enc : Encoder) (fs : List ForAll) (f : ForAll) → measured enc (fs ++ f ∷ []) ≡ plus (measured enc fs) (measuredOwn enc f)
-measured-snoc enc fs f =
+-- so the numbers add up
+pub measured-append : (enc : Encoder) (fs gs : List ForAll) → measured enc (fs ++ gs) ≡ plus (measured enc fs) (measured enc gs)
+measured-append enc fs gs =
     same-kept
-    (ap length (vars-snoc enc fs f) ∙ length-append (varsText enc fs) (ownVar enc f))
-    (ap length (guards-snoc enc fs f) ∙ length-append (guardsText enc fs) (ownText enc f))
-    (ap length (places.guards-snoc fs f) ∙ length-append (guardsOf fs) (kept (f .preds)))
+    (ap length (vars-append enc fs gs) ∙ length-append (varsText enc fs) (varsText enc gs))
+    (ap length (guards-append enc fs gs) ∙ length-append (guardsText enc fs) (guardsText enc gs))
+    (ap length (all-append fs gs) ∙ length-append (guardsOf fs) (guardsOf gs))
 
-pub measured-plus : (enc : Encoder) (fs : List ForAll) (f : ForAll) (k own : code.Kept) → k ≡ measured enc fs → own ≡ measuredOwn enc f → plus k own ≡ measured enc (fs ++ f ∷ [])
-measured-plus enc fs f k own e e' = rw (e, e') (sym (measured-snoc enc fs f))
+pub measured-plus : (enc : Encoder) (fs gs : List ForAll) (k own : code.Kept) → k ≡ measured enc fs → own ≡ measured enc gs → plus k own ≡ measured enc (fs ++ gs)
+measured-plus enc fs gs k own e e' = rw (e, e') (sym (measured-append enc fs gs))
 
 -- what was added is no more than all, and taking it back undoes the adding
 pub within-plus : (k own k' : code.Kept) → k' ≡ plus k own → Within own k'
@@ -125,9 +120,9 @@ module _ (enc : Encoder) (f : ForAll) (k own k' : code.Kept) (text text' : List 
   -- with one ForAll more
   pub keeps-extended : (fs : List ForAll) → Keeps enc fs text k → Keeps enc (fs ++ f ∷ []) text' k'
   keeps-extended fs h = record {
-    measures = e ∙ measured-plus enc fs f k own (h .measures) (x .measures);
-    vars = rw (vars-snoc enc fs f, x .vars) (begins-more (varsHalf text) (varsText enc fs) (ownVar enc f) (k .vars) (ap (λ (y : code.Kept). y .vars) (h .measures)) (h .vars));
-    guards = rw (guards-snoc enc fs f, x .guards) (begins-more (guardsHalf text) (guardsText enc fs) (ownText enc f) (k .guards) (ap (λ (y : code.Kept). y .guards) (h .measures)) (h .guards));
+    measures = e ∙ measured-plus enc fs (f ∷ []) k own (h .measures) (x .measures);
+    vars = rw (vars-append enc fs (f ∷ []), x .vars) (begins-more (varsHalf text) (varsText enc fs) (varsText enc (f ∷ [])) (k .vars) (ap (λ (y : code.Kept). y .vars) (h .measures)) (h .vars));
+    guards = rw (guards-append enc fs (f ∷ []), x .guards) (begins-more (guardsHalf text) (guardsText enc fs) (guardsText enc (f ∷ [])) (k .guards) (ap (λ (y : code.Kept). y .guards) (h .measures)) (h .guards));
   }
 
   -- what stays of the longer path stays of the path around it
@@ -138,8 +133,8 @@ module _ (enc : Encoder) (f : ForAll) (k own k' : code.Kept) (text text' : List 
       stays-then k text text' text''
       (record {
         size = x .size;
-        same-vars = rw (x .vars) (take-sets (ownVar enc f) (varsHalf text) (k .vars) (k .vars) (omega arith));
-        same-guards = rw (x .guards) (take-sets (ownText enc f) (guardsHalf text) (k .guards) (k .guards) (omega arith));
+        same-vars = rw (x .vars) (take-sets (varsText enc (f ∷ [])) (varsHalf text) (k .vars) (k .vars) (omega arith));
+        same-guards = rw (x .guards) (take-sets (guardsText enc (f ∷ [])) (guardsHalf text) (k .guards) (k .guards) (omega arith));
       })
       (record {
         size = y .size;
@@ -189,8 +184,8 @@ module _ (text ys : List ℕ) (ly : length ys ≡ length (take (length text / 2)
         rw (none, append-nil zs, take-at ys (drop (length text / 2) text) (length text / 2) half-is)
 
     pub extends : (s enc : List ℕ) (at : ℕ) (k : code.Kept) (v g c : ℕ)
-        → Stores (ownVar (encoderIn s enc)) (forAllAt s at) (k .vars) (take (length text / 2) text) ys v
-        → Stores (ownText (encoderIn s enc)) (forAllAt s at) (k .guards) (take (length first - length text / 2) (drop (length text / 2) first)) zs g → Counts (forAllAt s at) c
+        → Stores (λ f. varsText (encoderIn s enc) (f ∷ [])) (forAllAt s at) (k .vars) (take (length text / 2) text) ys v
+        → Stores (λ f. guardsText (encoderIn s enc) (f ∷ [])) (forAllAt s at) (k .guards) (take (length first - length text / 2) (drop (length text / 2) first)) zs g → Counts (forAllAt s at) c
         → Extends s enc at k text second (record { vars = v; guards = g; count = c })
     unfolding Stores Counts Extends
     extends s enc at k v g c w u n f p e =

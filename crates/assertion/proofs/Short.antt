@@ -1,18 +1,19 @@
 -- What the ForAlls of a file of bytes have is short: a file has less than 65536 bytes and a byte pays for 130 bytes of text, so a ForAll's binder
 -- and its guards have no more than 130 * 65536 bytes each.
-use Prim.Native.Nat.{ℕ, _+_, _*_, _≤_, _<_}
-use mathlib.Core.Path.{_≡_, refl, ap}
-use mathlib.Core.List.{List, [], _∷_, _++_}
+use Prim.Native.Nat.{ℕ, _*_, _≤_, _<_}
+use mathlib.Core.Path.{_≡_, ap}
+use mathlib.Core.List.{List, [], _∷_, append-nil}
 use native.Mathlib.Omega.{arith}
 use mir.Val.{Fits}
 use mir.Syntax.{w8}
-use lib.ListN.{length, getD, length-append}
+use lib.ListN.{length, getD}
 use Rattle.task.specs.Ast.{Pred}
 use Rattle.task.specs.Decode.{got, counted, decPred, deepest}
 use Rattle.task.proofs.Reading.{bind-got}
 use Rattle.task.proofs.Pieces.{any, any-many, wide-counted, each-covers}
 use Rattle.smt_text.specs.Editions.{Valid}
 use Rattle.smt_text.specs.Encoder.{Encoder}
+use Rattle.smt_text.specs.Text.{write-binder}
 use Rattle.smt_text.proofs.Texts.{tables}
 use Rattle.smt_text.proofs.Bounds.{rows, wides, spaced-length, binders, preds}
 use Rattle.horn_text.specs.Clauses.{ForAll, kept, guardsOf}
@@ -20,9 +21,10 @@ use Rattle.horn_text.specs.Script.{write-preds}
 use Rattle.horn_text.proofs.Lengths.{kept-less}
 use Rattle.smt_sort.specs.Section.{editionIn, encoderIn}
 use Rattle.output.specs.Emit.{most}
-use Rattle.assertion.specs.Under.{forAllAt, onPath, varsText, keptText, ownVar, ownText, guardsText}
+use Rattle.assertion.specs.declared.Kept as code
+use Rattle.assertion.specs.Under.{forAllAt, onPath, varsText, guardsText}
 use Rattle.assertion.proofs.Guards.{parts}
-use Rattle.assertion.proofs.Keeping.{guards-cons}
+use Rattle.assertion.proofs.Keeping.{measured-append}
 
 -- each predicate has a byte at least
 some-bytes : (enc : Encoder) (ps : List Pred) → length ps ≤ wides (write-preds enc ps)
@@ -33,10 +35,6 @@ some-bytes enc (p ∷ ps) = omega (arith, some-bytes enc ps)
 nothing : (enc : Encoder) → (length (varsText enc []) ≤ 0) × (length (guardsText enc []) ≤ 0) × (0 ≤ 0)
 unfolding varsText guardsText
 nothing enc = (omega arith, omega arith, omega arith)
-
-vars-cons : (enc : Encoder) (f : ForAll) (fs : List ForAll) → varsText enc (f ∷ fs) ≡ ownVar enc f ++ varsText enc fs
-unfolding varsText ownVar
-vars-cons enc f fs = refl
 
 -- the elements of a slice of bytes are bytes
 pub are-bytes : (s : List ℕ) → ((i : ℕ) → Fits w8 (getD s i 0)) → (i : ℕ) → getD s i 0 < 256
@@ -50,8 +48,8 @@ valid-in s t = tables .editions (editionIn t)
 module _ (s : List ℕ) (b : (i : ℕ) → getD s i 0 < 256) (h : length s < 65536) (enc : Encoder) (v : Valid (enc .names)) where
   -- what a ForAll has
   pub own-short : (o : ℕ) (f : ForAll) (z : ℕ) → forAllAt s o ≡ got f z
-      → (length (ownVar enc f) ≤ 130 * 65536) × (length (ownText enc f) ≤ 130 * 65536) × (length (kept (f .preds)) ≤ 130 * 65536)
-  unfolding ownVar ownText keptText
+      → (length (varsText enc (f ∷ [])) ≤ 130 * 65536) × (length (guardsText enc (f ∷ [])) ≤ 130 * 65536) × (length (guardsOf (f ∷ [])) ≤ 130 * 65536)
+  unfolding varsText guardsText
   own-short o f z e =
       let i = parts s o f z e in
       let all : counted [] _∷_ (decPred deepest) s (i .p) ≡ got (f .preds) (i .r) = rw (i .counted-by, i .holds) in
@@ -64,13 +62,13 @@ module _ (s : List ℕ) (b : (i : ℕ) → getD s i 0 < 256) (h : length s < 655
       let ws = spaced-length (write-preds enc (kept (f .preds))) in
       let ks = kept-less enc v (f .preds) in
       let ns = some-bytes enc (kept (f .preds)) in
-      (omega arith, omega arith, omega arith)
+      rw (append-nil (kept (f .preds)), append-nil (write-binder enc (f .binder))) (omega arith, omega arith, omega arith)
 
-  pub var-fits : (o : ℕ) (f : ForAll) (z : ℕ) → forAllAt s o ≡ got f z → length (ownVar enc f) ≤ most
-  var-fits o f z e = let l = own-short o f z e .0 in omega arith
+  pub vars-fit : (o : ℕ) (f : ForAll) (z : ℕ) → forAllAt s o ≡ got f z → length (varsText enc (f ∷ [])) ≤ most
+  vars-fit o f z e = let l = own-short o f z e .0 in omega arith
 
-  pub text-fits : (o : ℕ) (f : ForAll) (z : ℕ) → forAllAt s o ≡ got f z → length (ownText enc f) ≤ most
-  text-fits o f z e = let l = own-short o f z e .1 in omega arith
+  pub guards-fit : (o : ℕ) (f : ForAll) (z : ℕ) → forAllAt s o ≡ got f z → length (guardsText enc (f ∷ [])) ≤ most
+  guards-fit o f z e = let l = own-short o f z e .1 in omega arith
 
   -- what the ForAlls of a path have
   pub path-short : (os : List ℕ) (fs : List ForAll) (q : ℕ) → onPath s os ≡ got fs q
@@ -83,11 +81,9 @@ module _ (s : List ℕ) (b : (i : ℕ) → getD s i 0 < 256) (h : length s < 655
       let n : i .value ∷ j .value ≡ fs = cc in
       let one = own-short o (i .value) (i .next) (i .first) in
       let rest = path-short os (j .value) (j .next) (j .first) in
-      let a = length-append (ownVar enc (i .value)) (varsText enc (j .value)) in
-      let c = length-append (ownText enc (i .value)) (guardsText enc (j .value)) in
-      let d = length-append (kept (i .value .preds)) (guardsOf (j .value)) in
+      let all = measured-append enc (i .value ∷ []) (j .value) in
       rw (← n) (
-        omega (arith, ap length (vars-cons enc (i .value) (j .value)), one .0, rest .0),
-        omega (arith, ap length (guards-cons enc (i .value) (j .value)), one .1, rest .1),
-        omega (arith, one .2, rest .2),
+        omega (arith, ap (λ (k : code.Kept). k .vars) all, one .0, rest .0),
+        omega (arith, ap (λ (k : code.Kept). k .guards) all, one .1, rest .1),
+        omega (arith, ap (λ (k : code.Kept). k .count) all, one .2, rest .2),
       )

@@ -2,7 +2,7 @@
 -- are; and in a lent text these texts themselves, as far as there is room.
 use Prim.Native.Nat.{ℕ, _+_, _-_, _/_, _≤_}
 use mathlib.Core.Bool.{Bool, _&&_}
-use mathlib.Core.List.{List, []}
+use mathlib.Core.List.{List, [], _∷_}
 use mathlib.Core.Path.{_≡_}
 use lib.Dec.{leb}
 use lib.ListN.{length, take, drop}
@@ -10,22 +10,17 @@ use lib.Seq.{sets}
 use Rattle.task.specs.Ast.{Pred}
 use Rattle.task.specs.Decode.{Res, got}
 use Rattle.smt_text.specs.Encoder.{Encoder}
-use Rattle.horn_text.specs.Clauses as clauses
 use Rattle.horn_text.specs.Clauses.{ForAll, guardsOf}
 use Rattle.smt_sort.specs.Section.{encoderIn}
 use Rattle.output.specs.Emit.{Output, output, Sends}
 use Rattle.assertion.specs.declared.Kept as code
-use Rattle.assertion.specs.Under.{forAllAt, onPath, varsText, ownVar, ownText, guardsText, assertText}
+use Rattle.assertion.specs.Under.{forAllAt, onPath, varsText, guardsText, assertText}
 
 -- THE THREE NUMBERS
 
 -- the binders and the guards of ForAlls measured afresh
 abbrev pub measured : Encoder → List ForAll → code.Kept
 measured enc fs = record { vars = length (varsText enc fs); guards = length (guardsText enc fs); count = length (guardsOf fs) }
-
--- those of one ForAll
-abbrev pub measuredOwn : Encoder → ForAll → code.Kept
-measuredOwn enc f = record { vars = length (ownVar enc f); guards = length (ownText enc f); count = length (clauses.kept (f .preds)) }
 
 -- going down, what a ForAll has is added
 abbrev pub plus : code.Kept → code.Kept → code.Kept
@@ -83,14 +78,14 @@ Stores text d n half half' r = (f : ForAll) (p : ℕ) → d ≡ got f p → (r �
 
 -- Its guards were counted.
 unfoldable pub Counts : Res ForAll → ℕ → Type 0
-Counts d r = (f : ForAll) (p : ℕ) → d ≡ got f p → r ≡ length (clauses.kept (f .preds))
+Counts d r = (f : ForAll) (p : ℕ) → d ≡ got f p → r ≡ length (guardsOf (f ∷ []))
 
 -- All that it has was measured and put behind what is kept.
 pub record Extended (enc : Encoder) (f : ForAll) (kept : code.Kept) (text text' : List ℕ) (own : code.Kept) : Type 0 where
-  pub measures : own ≡ measuredOwn enc f
+  pub measures : own ≡ measured enc (f ∷ [])
   pub size : length text' ≡ length text
-  pub vars : varsHalf text' ≡ sets (varsHalf text) (kept .vars) (ownVar enc f)
-  pub guards : guardsHalf text' ≡ sets (guardsHalf text) (kept .guards) (ownText enc f)
+  pub vars : varsHalf text' ≡ sets (varsHalf text) (kept .vars) (varsText enc (f ∷ []))
+  pub guards : guardsHalf text' ≡ sets (guardsHalf text) (kept .guards) (guardsText enc (f ∷ []))
 
 -- So it was with the ForAll at an offset, where one stands there.
 unfoldable pub Extends : List ℕ → List ℕ → ℕ → code.Kept → List ℕ → List ℕ → code.Kept → Type 0

@@ -9,7 +9,7 @@ use Rattle.task.specs.Ast.{Pred}
 use Rattle.task.specs.Decode.{Res, got, bind, counted, binder, decPred, deepest}
 use Rattle.smtlib.specs.Lexicon.{bytes}
 use Rattle.smt_text.specs.Encoder.{Encoder}
-use Rattle.smt_text.specs.Text.{spaced, write-binder, write-binders, write-pred}
+use Rattle.smt_text.specs.Text.{spaced, write-binders, write-pred}
 use Rattle.horn_text.specs.Clauses.{ForAll, kept, bindersOf, guardsOf, clauseOf}
 use Rattle.horn_text.specs.Script.{join, write-preds, write-assert}
 use Rattle.assertion.specs.declared.Form.{Form}
@@ -29,19 +29,11 @@ onPath s (o ∷ os) = bind (forAllAt s o) (λ f p. bind (onPath s os) (λ fs q. 
 unfoldable pub varsText : Encoder → List ForAll → List ℕ
 varsText enc fs = join (write-binders enc (bindersOf fs))
 
--- the binder of one
-unfoldable pub ownVar : Encoder → ForAll → List ℕ
-ownVar enc f = write-binder enc (f .binder)
-
 -- predicates that are not literally true, a space before each
 unfoldable pub keptText : Encoder → List Pred → List ℕ
 keptText enc ps = spaced (write-preds enc (kept ps))
 
--- those of a ForAll
-unfoldable pub ownText : Encoder → ForAll → List ℕ
-ownText enc f = keptText enc (f .preds)
-
--- those of a path
+-- those of ForAlls
 unfoldable pub guardsText : Encoder → List ForAll → List ℕ
 guardsText enc fs = spaced (write-preds enc (guardsOf fs))
 

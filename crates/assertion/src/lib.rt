@@ -17,7 +17,7 @@ ghost use Rattle.path.specs.Offsets.{entries, Leaves};
 ghost use Rattle.output.specs.Emit.{output, most, emits, Sends};
 ghost use Rattle.names.specs.Table.{Chained};
 ghost use Rattle.smt_sort.specs.Section.{encoderIn};
-ghost use Rattle.assertion.specs.Under.{forAllAt, onPath, varsText, ownVar, ownText, guardsText, listing, lists, trueAt, kvarAt, formOf, openingText, impliesText, groupText, ungroupText, beforeText, behindText, endText, headText, HeadSends, assertText};
+ghost use Rattle.assertion.specs.Under.{forAllAt, onPath, varsText, guardsText, listing, lists, trueAt, kvarAt, formOf, openingText, impliesText, groupText, ungroupText, beforeText, behindText, endText, headText, HeadSends, assertText};
 ghost use Rattle.assertion.specs.Kept.{plus as plusIs, minus as minusIs, Within, fits as fitsIn, guardsIn, Stores, Counts, Extends, Numbers, MeasuredSends, KeptSends};
 
 // Guards in a row: where the next predicate stands, what was sent, and how many guards they are.
@@ -206,7 +206,7 @@ impl Kept {
 // Puts the binder of the ForAll at an offset behind the first n bytes of a text, as far as there is room for it, and tells how long it is.
 fn keep_binder(s: &[u8], at: usize, enc: &[u16], text: &mut [u8], n: usize) -> usize
     requires { ⌜ Chained (now s) (now enc) × (length (now s) < 65536) ⌝ }
-    ensures { λ r. ⌜ Stores (ownVar (encoderIn (now (s .entry)) (now (enc .entry)))) (forAllAt (now (s .entry)) at) n (now (text .entry)) (now (text .exit)) r ⌝ }
+    ensures { λ r. ⌜ Stores (λ f. varsText (encoderIn (now (s .entry)) (now (enc .entry))) (f ∷ [])) (forAllAt (now (s .entry)) at) n (now (text .entry)) (now (text .exit)) r ⌝ }
 {
     let start = output::least(n, text.len());
     let sent = smt_sort::write_binder(s, at, 256, enc, &mut text[start..], Out::new());
@@ -217,7 +217,7 @@ fn keep_binder(s: &[u8], at: usize, enc: &[u16], text: &mut [u8], n: usize) -> u
 // The same with its guards.
 fn keep_guards(s: &[u8], at: usize, enc: &[u16], text: &mut [u8], n: usize) -> Listed
     requires { ⌜ Chained (now s) (now enc) × (length (now s) < 65536) ⌝ }
-    ensures { λ r. ⌜ Stores (ownText (encoderIn (now (s .entry)) (now (enc .entry)))) (forAllAt (now (s .entry)) at) n (now (text .entry)) (now (text .exit)) (r .out .len) ⌝ }
+    ensures { λ r. ⌜ Stores (λ f. guardsText (encoderIn (now (s .entry)) (now (enc .entry))) (f ∷ [])) (forAllAt (now (s .entry)) at) n (now (text .entry)) (now (text .exit)) (r .out .len) ⌝ }
     ensures { λ r. ⌜ Counts (forAllAt (now (s .entry)) at) (r .count) ⌝ }
 {
     let start = output::least(n, text.len());

@@ -450,7 +450,7 @@ module _ (s enc text text' : List ℕ) (path : Path) (k own : Kept) (l at : ℕ)
   -- what it has is added without reaching the largest number
   pub own-added : ((i : ℕ) → Fits w8 (getD s i 0)) → (k .vars + own .vars ≤ most) × (k .guards + own .guards ≤ most) × (k .count + own .count ≤ most)
   own-added bytes =
-      let p : plus k own ≡ measured (encoderIn s enc) (h .around ++ last ∷ []) = measured-plus (encoderIn s enc) (h .around) last k own (h .keeps .measures) (extended .measures) in
+      let p : plus k own ≡ measured (encoderIn s enc) (h .around ++ last ∷ []) = measured-plus (encoderIn s enc) (h .around) (last ∷ []) k own (h .keeps .measures) (extended .measures) in
       let g = path-short s (are-bytes s bytes) (h .short) (encoderIn s enc) (valid-in s enc) (entries path ++ at ∷ []) (h .around ++ last ∷ []) 0 (on-snoc s (entries path) at (h .around) 0 last (h .stands) last-stands) in
       let n = length-append (entries path) (at ∷ []) in
       let d = depth-is path (l + 1) (h .leaves) in

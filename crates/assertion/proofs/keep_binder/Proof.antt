@@ -2,7 +2,7 @@
 use native.Mathlib.Omega.{arith}
 use Rattle.assertion.proofs.Guards.{binder-runs}
 use Rattle.assertion.proofs.Keeping.{stores}
-use Rattle.assertion.proofs.Short.{are-bytes, valid-in, var-fits}
+use Rattle.assertion.proofs.Short.{are-bytes, valid-in, vars-fit}
 use borrow.Author.Needs.{needs}
 use Rattle.assertion.proofs.keep_binder.Statement.{statement}
 use Rattle.assertion.proofs.keep_binder.Tie as tie
@@ -29,7 +29,7 @@ same-length : tie.Need-same-length
 same-length c = search needs
 
 returns : tie.Need-returns
-returns c = stores _ _ _ _ _ _ _ _ (c .before .before .before .before .before .before .least .ensures) (c .before .before .before .before .new .ensures) (let g = c .before .before .before .before .before .before .before .before .before .before .good in omega arith) (binder-runs _ _ _ _ _ _ (c .before .before .before .write-binder .ensures)) (var-fits (c .before .before .before .before .before .before .before .before .before .before .args .s .now) (are-bytes (c .before .before .before .before .before .before .before .before .before .before .args .s .now) (c .before .before .before .before .before .before .before .before .before .shared-slice-known .given)) (c .before .before .before .before .before .before .before .before .before .before .pre .1) _ (valid-in (c .before .before .before .before .before .before .before .before .before .before .args .s .now) (c .before .before .before .before .before .before .before .before .before .before .args .enc .now)) (c .before .before .before .before .before .before .before .before .before .before .args .at))
+returns c = stores _ _ _ _ _ _ _ _ (c .before .before .before .before .before .before .least .ensures) (c .before .before .before .before .new .ensures) (let g = c .before .before .before .before .before .before .before .before .before .before .good in omega arith) (binder-runs _ _ _ _ _ _ (c .before .before .before .write-binder .ensures)) (vars-fit (c .before .before .before .before .before .before .before .before .before .before .args .s .now) (are-bytes (c .before .before .before .before .before .before .before .before .before .before .args .s .now) (c .before .before .before .before .before .before .before .before .before .shared-slice-known .given)) (c .before .before .before .before .before .before .before .before .before .before .pre .1) _ (valid-in (c .before .before .before .before .before .before .before .before .before .before .args .s .now) (c .before .before .before .before .before .before .before .before .before .before .args .enc .now)) (c .before .before .before .before .before .before .before .before .before .before .args .at))
 
 pub keep-binder-spec : {M : Type 1} → statement M
 keep-binder-spec =

@@ -4,7 +4,7 @@ use mathlib.Core.Path.{_∙_}
 use Rattle.assertion.specs.Kept.{Counts}
 use Rattle.assertion.proofs.Guards.{own-sent, own-counted}
 use Rattle.assertion.proofs.Keeping.{stores}
-use Rattle.assertion.proofs.Short.{are-bytes, valid-in, text-fits}
+use Rattle.assertion.proofs.Short.{are-bytes, valid-in, guards-fit}
 use borrow.Author.Needs.{needs}
 use Rattle.assertion.proofs.keep_guards.Statement.{statement}
 use Rattle.assertion.proofs.keep_guards.Tie as tie
@@ -32,7 +32,7 @@ same-length c = search needs
 
 returns : tie.Need-returns
 unfolding Counts
-returns c = (stores _ _ _ _ _ _ _ _ (c .before .before .before .before .before .least .ensures) (c .before .before .before .new .ensures) (let g = c .before .before .before .before .before .before .before .before .before .good in omega arith) (own-sent _ _ _ _ _ _ _ _ _ (c .before .before .write-own-guards .ensures)) (text-fits (c .before .before .before .before .before .before .before .before .before .args .s .now) (are-bytes (c .before .before .before .before .before .before .before .before .before .args .s .now) (c .before .before .before .before .before .before .before .before .shared-slice-known .given)) (c .before .before .before .before .before .before .before .before .before .pre .1) _ (valid-in (c .before .before .before .before .before .before .before .before .before .args .s .now) (c .before .before .before .before .before .before .before .before .before .args .enc .now)) (c .before .before .before .before .before .before .before .before .before .args .at)), λ f p e. own-counted _ _ _ _ _ _ _ _ _ (c .before .before .write-own-guards .ensures) f p e ∙ omega arith)
+returns c = (stores _ _ _ _ _ _ _ _ (c .before .before .before .before .before .least .ensures) (c .before .before .before .new .ensures) (let g = c .before .before .before .before .before .before .before .before .before .good in omega arith) (own-sent _ _ _ _ _ _ _ _ _ (c .before .before .write-own-guards .ensures)) (guards-fit (c .before .before .before .before .before .before .before .before .before .args .s .now) (are-bytes (c .before .before .before .before .before .before .before .before .before .args .s .now) (c .before .before .before .before .before .before .before .before .shared-slice-known .given)) (c .before .before .before .before .before .before .before .before .before .pre .1) _ (valid-in (c .before .before .before .before .before .before .before .before .before .args .s .now) (c .before .before .before .before .before .before .before .before .before .args .enc .now)) (c .before .before .before .before .before .before .before .before .before .args .at)), λ f p e. own-counted _ _ _ _ _ _ _ _ _ (c .before .before .write-own-guards .ensures) f p e ∙ omega arith)
 
 pub keep-guards-spec : {M : Type 1} → statement M
 keep-guards-spec =
