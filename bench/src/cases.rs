@@ -41,6 +41,9 @@ pub const CASES: [Case; 23] = [
     ("small", false, |_| vec![include_bytes!("../../crates/hornscript/stdin").to_vec()]),
 ];
 
+/// The cases that are also measured by runs: some with many parts, files by chance, and a small file.
+pub const BY_RUNS: [&str; 9] = ["deep", "deep-names", "wide", "wide-kvars", "expressions", "datatypes", "constants", "generated", "small"];
+
 const DEEP_FORALLS: usize = 200;
 const DEEP_HEADS: usize = 10_000;
 const DEEP_NAMES: usize = 250;

@@ -2,18 +2,19 @@
 //!
 //!     bench/run [SECONDS]
 //!
-//! Two tables are printed, the second with the time for each byte of file and script at a quarter, a half and the whole of a case's size, how
-//! it grows from a quarter to the whole, and how that of survey grows from a half.
+//! Three tables are printed: the calls beside rendering and copy; all parts in runs beside script and beside single parts; and the time for each
+//! byte of file and script at a quarter, a half and the whole of a case's size, how it grows from a quarter to the whole, and how that of survey
+//! grows from a half.
 //! What is measured takes turns, round after round for so many seconds a case, and the shortest time of each counts, so other work of the
 //! machine falls on all alike.
 mod cases;
 
-use cases::{Case, CASES, WHOLE};
+use cases::{Case, BY_RUNS, CASES, WHOLE};
 use jiggerreef::Edition;
 use oracle::text::rendered;
 use std::hint::black_box;
 use std::time::Instant;
-use Measured::{Copied, Parts, Rendering, Script, Survey};
+use Measured::{Copied, Parts, Rendering, Runs, Script, Survey};
 
 /// The seconds and the rounds that a case is measured for at least.
 const SECONDS: f64 = 2.0;
@@ -22,9 +23,12 @@ const ROUNDS: usize = 10;
 /// A time is that of so many calls that they take this many seconds together: reading the clock is little beside that.
 const LEAST: f64 = 20e-6;
 
-/// Of a script with more parts than MANY_PARTS, SAMPLED parts are measured for all.
+/// Of a script with more parts than MANY_PARTS, SAMPLED parts are measured for all, and so it is with runs.
 const MANY_PARTS: usize = 500;
 const SAMPLED: usize = 50;
+
+/// How many parts a run has, at most.
+const RUN_PARTS: [usize; 4] = [1, 16, 256, usize::MAX];
 
 /// The edition of the rendering that is measured beside one of the archive's.
 fn rendering_edition(edition: Edition) -> oracle::text::Edition {
@@ -34,36 +38,57 @@ fn rendering_edition(edition: Edition) -> oracle::text::Edition {
     }
 }
 
-/// A file and its script in an edition. The buffer is as long as the script and was written to before. `sample` are the parts that are measured.
-struct Subject { file: Vec<u8>, edition: Edition, script: String, buf: Vec<u8>, parts: usize, sample: Vec<usize> }
+/// A file and its script in an edition. The buffer is as long as the script and was written to before, and the table of lengths as long as it has parts.
+struct Subject { file: Vec<u8>, edition: Edition, script: String, buf: Vec<u8>, parts: usize, lengths: Vec<u32> }
 
 impl Subject {
-    /// The archive has to write what the rendering writes.
+    /// The archive has to write what the rendering writes, and in one run too.
     fn new(file: Vec<u8>, edition: Edition) -> Self {
         let rendering = rendered(&file, rendering_edition(edition)).expect("an accepted file");
-        let (script, parts) = (rendering.script, rendering.ends.len());
-        let mut buf = vec![b' '; script.len()];
-        assert!(jiggerreef::script(&file, edition, &mut buf) == Ok(script.len()) && buf == script.as_bytes());
-        let middle = |i: usize| (2 * i + 1) * parts / (2 * SAMPLED);
-        let sample = if parts > MANY_PARTS { (0..SAMPLED).map(middle).collect() } else { (0..parts).collect() };
-        Subject { file, edition, script, buf, parts, sample }
+        let parts = rendering.ends.len();
+        let (mut buf, mut lengths) = (vec![b' '; rendering.script.len()], vec![0; parts]);
+        assert!(jiggerreef::script(&file, edition, &mut buf) == Ok(buf.len()) && buf == rendering.script.as_bytes());
+        buf.fill(b' ');
+        assert!(jiggerreef::run(&file, edition, 0, parts, &mut buf, &mut lengths) == Ok(buf.len()) && buf == rendering.script.as_bytes());
+        assert!((0..parts).all(|i| lengths[i] as usize == rendering.part(i).len()));
+        Subject { file, edition, script: rendering.script, buf, parts, lengths }
     }
 
     fn bytes(&self) -> usize { self.file.len() + self.script.len() }
-    fn sampled(&self) -> bool { self.sample.len() < self.parts }
+
+    /// The time of one run behind the other, each of so many parts.
+    fn by_runs(&mut self, run_parts: usize) -> f64 {
+        let Subject { file, edition, buf, parts, lengths, .. } = self;
+        for_all(parts.div_ceil(run_parts), |i| {
+            let first = i * run_parts;
+            jiggerreef::run(file, *edition, first, run_parts.min(*parts - first), buf, lengths).is_ok()
+        })
+    }
 }
 
-/// What is measured: the calls, all parts one after another, the whole way of the rendering, and a copy of the script.
+/// Whether of so many calls some are measured for all.
+fn is_sampled(calls: usize) -> bool { calls > MANY_PARTS }
+
+/// The time of so many calls, one after another.
+fn for_all(calls: usize, mut call: impl FnMut(usize) -> bool) -> f64 {
+    let middle = |i: usize| (2 * i + 1) * calls / (2 * SAMPLED);
+    let sample: Vec<usize> = if is_sampled(calls) { (0..SAMPLED).map(middle).collect() } else { (0..calls).collect() };
+    seconds(|| sample.iter().all(|i| call(*i))) * calls as f64 / sample.len() as f64
+}
+
+/// What is measured: the calls, all parts one after another, all in runs of so many, the whole way of the rendering, and a copy of the script.
 #[derive(Clone, Copy)]
-enum Measured { Survey, Script, Parts, Rendering, Copied }
+enum Measured { Survey, Script, Parts, Runs(usize), Rendering, Copied }
 
 impl Measured {
     /// Its time in seconds.
-    fn time(self, Subject { file, edition, script, buf, parts, sample }: &mut Subject) -> f64 {
+    fn time(self, subject: &mut Subject) -> f64 {
+        let Subject { file, edition, script, buf, parts, .. } = subject;
         match self {
             Survey => seconds(|| jiggerreef::survey(file, *edition)),
             Script => seconds(|| jiggerreef::script(file, *edition, buf)),
-            Parts => seconds(|| sample.iter().all(|i| jiggerreef::part(file, *edition, *i, buf).is_ok())) * *parts as f64 / sample.len() as f64,
+            Parts => for_all(*parts, |i| jiggerreef::part(file, *edition, i, buf).is_ok()),
+            Runs(run_parts) => subject.by_runs(run_parts),
             Rendering => seconds(|| rendered(black_box(file), rendering_edition(*edition))),
             Copied => seconds(|| black_box(&mut *buf).copy_from_slice(black_box(script.as_bytes()))),
         }
@@ -84,12 +109,14 @@ fn seconds<T>(mut call: impl FnMut() -> T) -> f64 {
     }
 }
 
-/// The shortest times for each subject.
-fn shortest<const N: usize>(subjects: &mut [Subject], measured: [Measured; N], at_least: f64) -> Vec<[f64; N]> {
+/// The shortest times for each subject. What comes first with one file of many takes longer, as the file is not in the caches yet; if `turned`, each
+/// round begins with another of those that are measured.
+fn shortest<const N: usize>(subjects: &mut [Subject], measured: [Measured; N], at_least: f64, turned: bool) -> Vec<[f64; N]> {
     let (start, mut times, mut rounds) = (Instant::now(), vec![[f64::INFINITY; N]; subjects.len()], 0);
     while rounds < ROUNDS || start.elapsed().as_secs_f64() < at_least {
         for (subject, times) in subjects.iter_mut().zip(&mut times) {
-            (0..N).for_each(|i| times[i] = times[i].min(measured[i].time(subject)));
+            let first = if turned { rounds } else { 0 };
+            (0..N).map(|i| (first + i) % N).for_each(|i| times[i] = times[i].min(measured[i].time(subject)));
         }
         rounds += 1;
     }
@@ -111,20 +138,38 @@ fn subjects((name, _, files): &Case, quarters: usize) -> Vec<Subject> {
 /// The row of a case among the comparisons.
 fn compared(case: &Case, at_least: f64) -> Vec<String> {
     let mut subjects = subjects(case, WHOLE);
-    let times = shortest(&mut subjects, [Survey, Script, Parts, Rendering, Copied], at_least);
+    let times = shortest(&mut subjects, [Survey, Script, Parts, Rendering, Copied], at_least, false);
     let [survey, script, parts, rendering, copied] = std::array::from_fn(|i| times.iter().map(|times| times[i]).sum::<f64>());
     let sum = |number: fn(&Subject) -> usize| subjects.iter().map(number).sum::<usize>().to_string();
-    let about = if subjects.iter().any(Subject::sampled) { "~" } else { "" };
     let sizes = [sum(|subject| subject.file.len()), sum(|subject| subject.script.len()), sum(|subject| subject.parts)];
     let ratios = [script / rendering, survey / rendering, script / copied].map(figure);
     let first = [case.0.to_string()].into_iter().chain(sizes).chain([figure(script * 1e3)]);
-    first.chain(ratios).chain([format!("{about}{}", figure(parts / script))]).collect()
+    first.chain(ratios).chain([about(&subjects, 1, parts / script)]).collect()
+}
+
+/// A ratio of runs of so many parts to something, with a mark if some of them were measured for all.
+fn about(subjects: &[Subject], run_parts: usize, ratio: f64) -> String {
+    let sampled = subjects.iter().any(|subject| is_sampled(subject.parts.div_ceil(run_parts)));
+    format!("{}{}", if sampled { "~" } else { "" }, figure(ratio))
+}
+
+/// The row of a case among the runs: beside script, and beside single parts.
+fn run(case: &Case, at_least: f64) -> Vec<String> {
+    let mut subjects = subjects(case, WHOLE);
+    let [one, some, many, all] = RUN_PARTS.map(Runs);
+    let times = shortest(&mut subjects, [Script, Parts, one, some, many, all], at_least, true);
+    let sums: [f64; 6] = std::array::from_fn(|i| times.iter().map(|times| times[i]).sum());
+    let [script, parts, runs @ ..] = sums;
+    let beside = |time: f64| RUN_PARTS.iter().zip(runs).map(|(run_parts, run)| about(&subjects, *run_parts, run / time)).collect::<Vec<_>>();
+    let number = subjects.iter().map(|subject| subject.parts).sum::<usize>().to_string();
+    let first = [case.0.to_string(), number, figure(script * 1e3), about(&subjects, 1, parts / script)];
+    first.into_iter().chain(beside(script)).chain(beside(parts)).collect()
 }
 
 /// The row of a case among the growths, in nanoseconds for a byte.
 fn grown(case: &Case, at_least: f64) -> Vec<String> {
     let mut subjects: Vec<Subject> = [1, 2, WHOLE].into_iter().flat_map(|quarters| subjects(case, quarters)).collect();
-    let times = shortest(&mut subjects, [Script, Rendering, Survey], at_least);
+    let times = shortest(&mut subjects, [Script, Rendering, Survey], at_least, false);
     let for_a_byte = |i: usize, at: usize| times[at][i] * 1e9 / subjects[at].bytes() as f64;
     let growths = [(0, 0), (1, 0), (2, 1)].map(|(i, from)| figure(for_a_byte(i, 2) / for_a_byte(i, from)));
     let sizes = subjects.iter().map(|subject| subject.bytes().to_string());
@@ -152,6 +197,11 @@ fn main() {
     ];
     print(&titles, CASES.iter().map(|case| compared(case, at_least)));
     println!("~: of a script with more than {MANY_PARTS} parts {SAMPLED} were measured, spread evenly, and the time scaled up\n");
+    let titles = [
+        "case", "parts", "script ms", "parts/script", "runs of 1/script", "of 16", "of 256", "of all", "runs of 1/parts", "of 16", "of 256", "of all",
+    ];
+    print(&titles, CASES.iter().filter(|case| BY_RUNS.contains(&case.0)).map(|case| run(case, at_least)));
+    println!("~: likewise, with more than {MANY_PARTS} runs\n");
     let titles = [
         "case", "bytes at 1/4", "at 1/2", "whole", "ns a byte at 1/4", "at 1/2", "whole", "growth", "growth of rendering", "survey from 1/2",
     ];

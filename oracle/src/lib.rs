@@ -6,6 +6,7 @@ pub mod draft;
 pub mod faults;
 pub mod limits;
 pub mod returns;
+pub mod runs;
 pub mod scope;
 pub mod shrink;
 pub mod strings;
@@ -15,7 +16,7 @@ pub mod words;
 
 #[cfg(test)]
 mod tests {
-    use super::{chance::*, check::*, faults::*, limits::*, shrink::*, task::*, words::*};
+    use super::{chance::*, check::*, faults::*, limits::*, runs::*, shrink::*, task::*, text::*, words::*};
     use std::collections::HashSet;
 
     const EACH: usize = 300;
@@ -50,6 +51,27 @@ mod tests {
         let limits = limits();
         limits.iter().for_each(|(name, case)| check_answer(name, case));
         assert_eq!(limits.iter().map(|(name, _)| name).collect::<HashSet<_>>().len(), limits.len());
+    }
+
+    #[test]
+    fn runs_are_parts_one_after_another() {
+        let rendering = rendered(&packed(S), Edition::Z3).expect("an accepted file");
+        for (first, count) in (0..=7).flat_map(|first| (0..=7 - first).map(move |count| (first, count))) {
+            let parts: Vec<&str> = (first..first + count).map(|i| rendering.part(i)).collect();
+            let (text, lengths) = (parts.concat(), parts.iter().map(|part| part.len() as u32).collect());
+            assert_eq!(rendering.run(&Run { first, count, room: text.len(), places: count }), Ok((&text[..], lengths)));
+        }
+    }
+
+    #[test]
+    fn runs_by_chance_break_every_two_rules() {
+        let rendering = rendered(&packed(S), Edition::Z3).expect("an accepted file");
+        let (mut chance, mut tried) = (Chance::new(SEED), Tried::default());
+        for script in [Some(&rendering), None].repeat(5 * EACH) {
+            let (kind, run) = any_run(&mut chance, script);
+            tried.add(kind, &run, script);
+        }
+        assert!(tried.rules.iter().enumerate().all(|(i, behind)| behind[i..].iter().all(|runs| *runs > 0)), "{:?}", tried.rules);
     }
 
     #[test]

@@ -32,8 +32,32 @@ impl Edition {
 pub struct Rendering { pub script: String, pub ends: Vec<usize>, pub assertions: usize }
 
 impl Rendering {
-    pub fn part(&self, i: usize) -> &str { &self.script[if i == 0 { 0 } else { self.ends[i - 1] }..self.ends[i]] }
+    /// Where part i begins, or where the script ends if i is the number of parts.
+    pub fn start(&self, i: usize) -> usize { if i == 0 { 0 } else { self.ends[i - 1] } }
+    pub fn part(&self, i: usize) -> &str { &self.script[self.start(i)..self.ends[i]] }
     pub fn longest(&self) -> usize { (0..self.ends.len()).map(|i| self.part(i).len()).max().unwrap_or(0) }
+
+    /// The parts of a run joined, and the length of each; or 8 if it passes the last part, then 9 if the text or the parts have no room (W-204).
+    pub fn run(&self, run: &Run) -> Answer<(&str, Vec<u32>)> {
+        if run.passes(self.ends.len()) {
+            return Err(8);
+        }
+        let parts = run.first..run.first + run.count;
+        let text = &self.script[self.start(parts.start)..self.start(parts.end)];
+        if text.len() > run.room || run.count > run.places {
+            return Err(9);
+        }
+        Ok((text, parts.map(|i| self.part(i).len() as u32).collect()))
+    }
+}
+
+/// What a run is asked for: parts from the first on, so many of them, into a buffer of so many bytes and a table of so many places.
+#[derive(Debug, Clone, Copy)]
+pub struct Run { pub first: usize, pub count: usize, pub room: usize, pub places: usize }
+
+impl Run {
+    /// Whether it passes the last of so many parts. The sum is that of numbers: two of 64 bits have one of 128.
+    pub fn passes(&self, parts: usize) -> bool { self.first as u128 + self.count as u128 > parts as u128 }
 }
 
 /// The script of a file, or its refusal.

@@ -1,19 +1,24 @@
-//! The three calls on the scope document's case and on bytes that are no task.
-use jiggerreef::{part, script, survey, Edition, Refusal, Sizes};
+//! The four calls on the scope document's case and on bytes that are no task, and what is over them.
+use jiggerreef::{part, parts, run, run_to_vec, script, survey, Edition, Refusal, Run, Sizes};
 
 const TASK: &[u8] = include_bytes!("../../../crates/hornscript/stdin");
 const SCRIPT: &[u8] = include_bytes!("../../../crates/hornscript/stdout");
 const FILLED: u8 = 0xa5;
+const UNSET: u32 = 0xa5a5_a5a5;
 
 fn number<T>(answer: Result<T, Refusal>) -> Option<u8> {
     answer.err().map(|refusal| refusal.number())
 }
 
-/// What the three calls answer in both editions: the numbers of refusals.
-fn numbers(file: &[u8], buf: &mut [u8]) -> [Option<u8>; 6] {
-    let [z3, cvc5] = [Edition::Z3, Edition::Cvc5]
-        .map(|edition| [number(survey(file, edition)), number(part(file, edition, 0, buf)), number(script(file, edition, buf))]);
-    [z3[0], z3[1], z3[2], cvc5[0], cvc5[1], cvc5[2]]
+/// What the calls answer in both editions, and those over them: the numbers of refusals.
+fn numbers(file: &[u8], buf: &mut [u8]) -> [Option<u8>; 12] {
+    let mut lengths = [UNSET; 4];
+    let [z3, cvc5] = [Edition::Z3, Edition::Cvc5].map(|edition| [
+        number(survey(file, edition)), number(part(file, edition, 0, buf)), number(script(file, edition, buf)),
+        number(run(file, edition, 0, 1, buf, &mut lengths)), number(run_to_vec(file, edition, 0, 1)), number(parts(file, edition, 1)),
+    ]);
+    assert!(z3[3].is_none() || lengths == [UNSET; 4]);
+    std::array::from_fn(|i| if i < 6 { z3[i] } else { cvc5[i - 6] })
 }
 
 #[test]
@@ -48,10 +53,107 @@ fn a_script_needs_its_length_and_leaves_the_rest() {
     assert!(buf[SCRIPT.len()..].iter().all(|byte| *byte == FILLED));
 }
 
+/// What single calls one after another leave of a buffer and a table that are filled, each call into the buffer behind the last written byte with its
+/// length put down; and the joined length.
+fn singles(first: usize, count: usize) -> (Vec<u8>, Vec<u32>, usize) {
+    let (mut buf, mut lengths, mut at) = (vec![FILLED; SCRIPT.len() + 100], vec![UNSET; 10], 0);
+    for (i, place) in lengths[..count].iter_mut().enumerate() {
+        let length = part(TASK, Edition::Z3, first + i, &mut buf[at..]).unwrap();
+        *place = length as u32;
+        at += length;
+    }
+    (buf, lengths, at)
+}
+
+/// Calls `run` with the first bytes of a filled buffer and the first places of a filled table, so many of each, and gives what is left of the whole.
+fn ran(first: usize, count: usize, room: usize, places: usize) -> (Result<usize, Refusal>, Vec<u8>, Vec<u32>) {
+    let (mut buf, mut lengths) = (vec![FILLED; SCRIPT.len() + 100], vec![UNSET; 10]);
+    let answer = run(TASK, Edition::Z3, first, count, &mut buf[..room], &mut lengths[..places]);
+    (answer, buf, lengths)
+}
+
+/// Such a call is refused and changes nothing.
+fn assert_refused(refusal: u8, first: usize, count: usize, room: usize, places: usize) {
+    let (answer, buf, lengths) = ran(first, count, room, places);
+    assert_eq!(number(answer), Some(refusal), "{count} parts from {first} with {room} bytes and {places} places");
+    assert!(buf.iter().all(|byte| *byte == FILLED) && lengths.iter().all(|length| *length == UNSET));
+}
+
+/// Every run of the 7 parts, those of zero parts up to number 7 included: with just room and with more, and with a byte or a place less.
+#[test]
+fn a_run_leaves_what_single_calls_leave() {
+    for (first, count) in (0..=7).flat_map(|first| (0..=7 - first).map(move |count| (first, count))) {
+        let (buf, lengths, joined) = singles(first, count);
+        for (room, places) in [(joined, count), (joined + 100, count + 3), (joined, count + 1), (joined + 1, count)] {
+            assert_eq!(ran(first, count, room, places.min(10)), (Ok(joined), buf.clone(), lengths.clone()));
+        }
+        if count > 0 {
+            for (room, places) in [(joined - 1, 10), (joined, count - 1), (joined - 1, count - 1), (0, 10), (joined, 0)] {
+                assert_refused(9, first, count, room, places);
+            }
+        }
+    }
+    assert_eq!(&singles(0, 7).0[..SCRIPT.len()], SCRIPT);
+}
+
+/// The sum of first and count is that of numbers: where it passes 2^64 it passes the last part too. 8 comes before 9.
+#[test]
+fn a_run_past_the_last_part_is_refused() {
+    const MOST: usize = usize::MAX;
+    for (first, count) in [
+        (0, 8), (3, 5), (7, 1), (8, 0), (8, 1), (0, MOST), (1, MOST), (2, MOST), (MOST, 0), (MOST, 1), (MOST, 2), (MOST, MOST),
+        (MOST / 2 + 1, MOST / 2 + 1), (1, (1 << 32) + 2), ((1 << 32) + 1, 2),
+    ] {
+        for (room, places) in [(SCRIPT.len(), 10), (0, 10), (SCRIPT.len(), 0), (0, 0)] {
+            assert_refused(8, first, count, room, places);
+        }
+        assert_eq!(number(run_to_vec(TASK, Edition::Z3, first, count)), Some(8));
+    }
+}
+
+#[test]
+fn survey_refuses_before_a_run_is_looked_at() {
+    for (first, count) in [(0, 0), (0, 1), (usize::MAX, usize::MAX)] {
+        let (mut buf, mut lengths) = ([FILLED; 8], [UNSET; 8]);
+        assert_eq!(number(run(b"no task", Edition::Z3, first, count, &mut buf, &mut lengths)), Some(1));
+        assert_eq!(number(run(b"no task", Edition::Cvc5, first, count, &mut [], &mut [])), Some(1));
+        assert_eq!((buf, lengths), ([FILLED; 8], [UNSET; 8]));
+    }
+}
+
+#[test]
+fn a_run_goes_into_a_vec() {
+    for (first, count) in (0..=7).flat_map(|first| (0..=7 - first).map(move |count| (first, count))) {
+        let (buf, lengths, joined) = singles(first, count);
+        let run = run_to_vec(TASK, Edition::Z3, first, count).unwrap();
+        assert_eq!(run, Run { text: buf[..joined].to_vec(), lengths: lengths[..count].to_vec() });
+        let ends = |part: &[u8]| part.last() == Some(&b'\n');
+        assert!(run.parts().count() == count && run.parts().all(ends) && run.parts().collect::<Vec<_>>().concat() == run.text);
+    }
+}
+
+/// However many parts a run has, the iterator gives the same parts one by one, and tells how many are left.
+#[test]
+fn parts_come_one_by_one_from_runs() {
+    let single = |i| {
+        let (buf, _, joined) = singles(i, 1);
+        buf[..joined].to_vec()
+    };
+    for at_a_time in [0, 1, 2, 3, 4, 6, 7, 8, 100, usize::MAX] {
+        let mut given = parts(TASK, Edition::Z3, at_a_time).unwrap();
+        for i in 0..7 {
+            assert_eq!(given.len(), 7 - i);
+            assert_eq!(given.next(), Some(single(i)));
+        }
+        assert_eq!((given.len(), given.next(), given.next()), (0, None, None));
+        assert_eq!(parts(TASK, Edition::Z3, at_a_time).unwrap().collect::<Vec<_>>().concat(), SCRIPT);
+    }
+}
+
 #[test]
 fn no_task_is_refused_by_every_call_alike() {
     for file in [&b""[..], b"no task", &TASK[..107], &[0; 60_001]] {
-        assert_eq!(numbers(file, &mut []), [Some(1); 6]);
+        assert_eq!(numbers(file, &mut []), [Some(1); 12]);
     }
 }
 
@@ -76,7 +178,7 @@ fn each_form_without_a_text_has_its_number() {
         (12, file_with(2, &[1, b'c', 4, 0], &[0, 1, 6])),
     ] {
         let mut buf = [FILLED; 512];
-        assert_eq!(numbers(&file, &mut buf), [Some(refusal); 6]);
+        assert_eq!(numbers(&file, &mut buf), [Some(refusal); 12]);
         assert!(buf.iter().all(|byte| *byte == FILLED));
     }
 }
@@ -96,7 +198,7 @@ fn a_for_all_named_like_something_declared_is_refused() {
         file_with(4, &[1, b'x', 0, 0], FOR_ALL),
     ] {
         let mut buf = [FILLED; 512];
-        assert_eq!(numbers(&file, &mut buf), [Some(15); 6]);
+        assert_eq!(numbers(&file, &mut buf), [Some(15); 12]);
         assert!(buf.iter().all(|byte| *byte == FILLED));
     }
     let mut renamed = file_with(2, b"\x03lim\0", MERGE);
@@ -121,7 +223,7 @@ fn a_name_that_is_not_known_is_refused() {
         file_with(2, b"\x01a\x01", b"\0\0\x01a\0\0"),
     ] {
         let mut buf = [FILLED; 512];
-        assert_eq!(numbers(&file, &mut buf), [Some(10); 6]);
+        assert_eq!(numbers(&file, &mut buf), [Some(10); 12]);
         assert!(buf.iter().all(|byte| *byte == FILLED));
     }
     assert_eq!(number(survey(&file_with(2, b"\x01a\0", b"\0\x01\x05\x01a"), Edition::Z3)), None);
@@ -136,7 +238,7 @@ fn a_kvar_takes_as_many_arguments_as_it_has_sorts() {
         for (args, head) in HEADS.iter().enumerate() {
             let file = file_with(4, kvars, head);
             let (due, mut buf) = ((args != sorts).then_some(11), [FILLED; 512]);
-            assert_eq!(numbers(&file, &mut buf), [due; 6]);
+            assert_eq!(numbers(&file, &mut buf), [due; 12]);
             assert!(due.is_none() || buf.iter().all(|byte| *byte == FILLED));
         }
     }
@@ -178,6 +280,7 @@ fn the_deepest_tasks_fit_a_small_thread() {
             assert_eq!((sizes.parts, sizes.assertions), (5, 1));
             assert_eq!(script(&file, Edition::Z3, &mut vec![0; sizes.bytes]), Ok(sizes.bytes));
             assert!(part(&file, Edition::Z3, 3, &mut vec![0; sizes.longest]).is_ok());
+            assert_eq!(run(&file, Edition::Z3, 0, 5, &mut vec![0; sizes.bytes], &mut [0; 5]), Ok(sizes.bytes));
         };
         std::thread::Builder::new().stack_size(640 << 10).spawn(walked).unwrap().join().unwrap();
     }
@@ -199,6 +302,9 @@ fn the_set_functions_have_the_names_of_the_edition() {
         assert_eq!(&buf[..assertion.len()], assertion.as_bytes());
         assert_eq!(script(&file, edition, &mut buf), Ok(whole.len()));
         assert_eq!(&buf[..whole.len()], whole.as_bytes());
+        let behind = run_to_vec(&file, edition, 1, 2).unwrap();
+        assert_eq!(behind, Run { text: format!("\n{assertion}").into_bytes(), lengths: vec![1, assertion.len() as u32] });
+        assert_eq!(parts(&file, edition, 3).unwrap().collect::<Vec<_>>().concat(), whole.as_bytes());
         assert_eq!(survey(&file, edition), Ok(Sizes { parts: 4, assertions: 1, bytes: whole.len(), longest: assertion.len() }));
     }
     assert_eq!(Edition::default(), Edition::Z3);

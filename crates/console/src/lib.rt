@@ -1,82 +1,161 @@
 // What the program `hornscript` writes for a task file: its script in the edition of Z3 on standard output, or one line `refused N` and nothing
-// else.
+// else. No contract can speak of standard output: what is proved is which parts the buffer holds at each turn, and that the bytes handed out
+// add up to the script.
 use flatten::Range;
 use inspect::Inspected;
 use libc::STDOUT_FILENO;
-use smt_horn::Surveyed;
 use smt_text::Edition;
 use trailer::Bounds;
-ghost use Prim.Native.Nat.{_<_, _≤_};
-ghost use Rattle.trailer.specs.Bounds.{Inside};
-ghost use Rattle.names.specs.Table.{Chained};
+ghost use mathlib.Core.Path.{_≡_};
+ghost use Prim.Native.Nat.{_≤_};
+ghost use lib.ListN.{length};
+ghost use Rattle.inspect.specs.Inspect.{Names};
+ghost use Rattle.task.specs.Task.{taskOf};
+ghost use Rattle.smt_text.specs.Editions.{namesOf};
+ghost use Rattle.smt_sort.specs.Section.{editionIn};
+ghost use Rattle.horn_text.specs.Answers.{refused};
+ghost use Rattle.flatten.specs.Parts.{up};
+ghost use Rattle.parts.specs.Whole.{Accepted};
+ghost use Rattle.console.specs.Turns.{fitting as fittingOf, Fills, Begun, Short, Whole, printOf, printAnswer, printed};
 
-// Writes the script, or `refused N`: survey's number, or 9 if a part is longer than the 65,536 bytes that are written at once.
-pub fn print_script(file: &[u8]) {
-    let surveyed = smt_horn::survey(file, Edition::Z3);
-    match surveyed {
-        Surveyed::Sizes(parts, _, _, longest) => {
-            if longest <= 65536 {
-                print_parts(file, parts);
-            } else {
-                print_refused(9);
-            }
+// What a turn put into the buffer: the number of the part behind it, and how many bytes.
+pub struct Turn {
+    pub next: usize,
+    pub len: usize,
+}
+
+// What was printed: a script of so many bytes, or the line of a refusal.
+pub enum Printed {
+    Script(usize),
+    Refused(u8),
+}
+
+// A length as a number of bytes.
+fn wide(n: u32) -> usize
+    ensures { λ r. ⌜ r ≡ n ⌝ }
+{
+    n as usize
+}
+
+// How many of the lengths, from the first on, there is room for together.
+fn fitting(lengths: &[u32], room: usize) -> usize
+    ensures { λ r. ⌜ r ≡ fittingOf room (now (lengths .entry)) ⌝ }
+{
+    let mut left = room;
+    let mut i: usize = 0;
+    while i < lengths.len() {
+        let n = wide(lengths[i]);
+        if left < n {
+            return i;
         }
-        Surveyed::Refused(n) => print_refused(n as u64),
+        left -= n;
+        i += 1;
     }
+    i
+}
+
+// Puts as many parts, from a number on, to the buffer's start as fit it and a table of their lengths.
+fn fill(
+    file: &[u8],
+    b: Bounds,
+    enc: &[u16],
+    from: usize,
+    buf: &mut [u8],
+    lengths: &mut [u32],
+) -> Turn
+    requires { ⌜ Accepted (now file) b × Names (now file) (now enc) ⌝ }
+    requires { ⌜ Begun (now file) (editionIn (now enc)) from ⌝ }
+    ensures { λ r. ⌜ Fills (now (file .entry)) (editionIn (now (enc .entry))) from (length (now (lengths .entry))) (now (buf .entry)) (now (buf .exit)) r ⌝ }
+{
+    let places = lengths.len();
+    let to = output::sum(from, places);
+    let sizes = parts::measure(file, b, enc, Range { from, to }, lengths);
+    let known = output::least(places, sizes.seen - from);
+    let next = from + fitting(&lengths[..known], buf.len());
+    let mut none = [0u32; 0];
+    let put = parts::write_smt_horn(file, b, enc, Range { from, to: next }, buf, &mut none);
+    Turn { next, len: put.len }
+}
+
+// Writes out what a turn put into the buffer. Answers how many bytes were written out so far.
+fn print_turn(buf: &[u8], len: usize, done: usize) -> usize
+    requires { ⌜ len ≤ length (now buf) ⌝ }
+    ensures { λ r. ⌜ r ≡ up done len ⌝ }
+{
+    io::write_all(STDOUT_FILENO, &buf[..len]);
+    output::sum(done, len)
+}
+
+// 1,048,576 zeros: the buffer of a turn.
+fn turn_buffer() -> [u8; 1048576]
+    ensures { λ r. ⌜ 1048576 ≡ length r ⌝ }
+{
+    [0; 1048576]
+}
+
+// 65,536 zeros: the table of the lengths of a turn's parts.
+fn turn_lengths() -> [u32; 65536]
+    ensures { λ r. ⌜ 65536 ≡ length r ⌝ }
+{
+    [0; 65536]
+}
+
+// Writes out n parts by turns. The buffer is larger than the longest part may be, so that there are fewer turns: each walks the file anew.
+fn print_turns(file: &[u8], b: Bounds, enc: &[u16], n: usize) -> usize
+    requires { ⌜ Accepted (now file) b × Names (now file) (now enc) ⌝ }
+    requires { ⌜ Short (now file) (editionIn (now enc)) n ⌝ }
+    ensures { λ r. ⌜ Whole (now (file .entry)) (editionIn (now (enc .entry))) r ⌝ }
+{
+    let mut buffer = turn_buffer();
+    let mut lengths = turn_lengths();
+    let mut next: usize = 0;
+    let mut done: usize = 0;
+    while next < n {
+        let turn = fill(file, b, enc, next, &mut buffer, &mut lengths);
+        done = print_turn(&buffer, turn.len, done);
+        next = turn.next;
+    }
+    done
 }
 
 // Writes the line of a refusal.
-pub fn print_refused(n: u64) {
+pub fn print_refused(n: u8) -> Printed
+    ensures { λ r. ⌜ printed r ≡ refused n ⌝ }
+{
     io::write_all(STDOUT_FILENO, b"refused ");
-    io::print_decimal(STDOUT_FILENO, n);
+    io::print_decimal(STDOUT_FILENO, n as u64);
     io::write_all(STDOUT_FILENO, b"\n");
+    Printed::Refused(n)
 }
 
-// Writes the first n parts of a file that holds a task, with a table of the names that it declares.
-fn print_parts(file: &[u8], n: usize) {
+// Writes the script of a task whose sections and names are known; or 9 if a part is longer than 65,536 bytes.
+fn print_task(file: &[u8], b: Bounds, enc: &[u16]) -> Printed
+    requires { ⌜ Accepted (now file) b × Names (now file) (now enc) ⌝ }
+    ensures { λ r. ⌜ printed r ≡ printOf (namesOf (editionIn (now (enc .entry)))) (taskOf (now (file .entry))) ⌝ }
+{
+    let mut none = [0u32; 0];
+    let all = Range {
+        from: 0,
+        to: 18446744073709551615,
+    };
+    let sizes = parts::measure(file, b, enc, all, &mut none);
+    if 65536 < sizes.longest {
+        return print_refused(9);
+    }
+    Printed::Script(print_turns(file, b, enc, sizes.seen))
+}
+
+// Writes the script of a file, or `refused N`.
+pub fn print_script(file: &[u8]) -> Printed
+    ensures { λ r. ⌜ printed r ≡ printAnswer (now (file .entry)) ⌝ }
+{
     let mut table = [0u16; 61026];
     let inspected = inspect::inspect(file, &mut table);
-    let Inspected::Task(b, _, _) = inspected else {
-        return;
-    };
-    smt_sort::set_edition(&mut table, Edition::Z3);
-    print_all(file, b, &table, n);
-}
-
-// Writes n parts by as many at once as the buffer has room for: twice as many where half of it was enough, half as many where it was not.
-fn print_all(file: &[u8], b: Bounds, enc: &[u16], n: usize)
-    requires { ⌜ Inside (now file) b × Chained (now file) (now enc) ⌝ }
-{
-    let mut buffer = io::large_buffer();
-    let mut from: usize = 0;
-    let mut step: usize = 1;
-    while from < n {
-        let to = output::sum(from, step);
-        let put = parts::write_smt_horn(file, b, enc, Range { from, to }, &mut buffer);
-        let len = put.len;
-        if len <= 65536 {
-            io::write_all(STDOUT_FILENO, &buffer[..len]);
-            from = to;
-            step = wider(step, len);
-        } else {
-            if step <= 1 {
-                return;
-            }
-            step = step / 2;
+    match inspected {
+        Inspected::Task(b, _, _) => {
+            smt_sort::set_edition(&mut table, Edition::Z3);
+            print_task(file, b, &table)
         }
+        Inspected::Refused(n) => print_refused(n),
     }
-}
-
-// Twice the number where less than half of the buffer was used, up to 65,536.
-fn wider(step: usize, len: usize) -> usize
-    requires { ⌜ (0 < step) × (step ≤ 65536) ⌝ }
-    ensures { λ r. ⌜ (0 < r) × (r ≤ 65536) ⌝ }
-{
-    if 32768 < len {
-        return step;
-    }
-    if 32768 < step {
-        return step;
-    }
-    step + step
 }

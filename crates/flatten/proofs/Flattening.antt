@@ -43,13 +43,12 @@ use Rattle.smt_sort.specs.Section.{encoderIn}
 use Rattle.assertion.proofs.Asserts.{both, not-set, empty}
 use Rattle.assertion.proofs.Keeping.{measured-plus, within-plus, plus-minus, keeps-stays, keeps-extended, stays-around}
 use Rattle.assertion.proofs.Short.{are-bytes, valid-in, path-short}
-use Rattle.flatten.specs.declared.Range.{Range}
 use Rattle.flatten.specs.declared.Progress.{Progress}
 use Rattle.flatten.specs.declared.Moved.{Moved}
 use Rattle.flatten.specs.declared.Row.{Row}
-use Rattle.flatten.specs.Parts.{Writing, writing, has, placed, passed, put, puts, Puts, PutsUnder, headParts, clauseParts, memberParts}
+use Rattle.flatten.specs.Parts.{Writing, writing, has, passed, put, puts, Puts, PutsUnder, headParts, clauseParts, memberParts}
 use Rattle.flatten.specs.Walk.{Ready, enough, wanted, Passes, Places, MeasuredPlaces, KeptPlaces, PathPlaces, KeptPuts}
-use Rattle.flatten.proofs.Lending.{part-placed, put-out, puts-append}
+use Rattle.flatten.proofs.Lending.{Counted, part-placed, put-out, puts-append}
 
 -- HEADS
 
@@ -62,9 +61,9 @@ module _ (d : Res Pred) (f : Moved) (v : Walked) (e : v ≡ walked predFault d) 
   -- one that is refused has no parts
   pub pred-refused : (k : ℕ) → v ≡ walked-is.Refused k → Passes f d f
   unfolding Passes Puts
-  pred-refused k e' r i enc fs b =
+  pred-refused k e' i enc fs b ls =
       rw (refused-is predFault d k (sym e' ∙ e))
-      (runs-refused (λ z a. puts r z (headParts enc fs a)) (writing (f .progress) b) (writing (f .progress) b) (f .at) k)
+      (runs-refused (λ z a. puts z (headParts enc fs a)) (writing (f .progress) b ls) (writing (f .progress) b ls) (f .at) k)
 
   module _ (t : Bool) (h : t ≡ readTrue d) (q : ℕ) (x : Fault) (e' : v ≡ walked-is.Next q x) where
     ends : (a : Pred) (z : ℕ) → d ≡ got a z → q ≡ z
@@ -73,90 +72,90 @@ module _ (d : Res Pred) (f : Moved) (v : Walked) (e : v ≡ walked predFault d) 
     -- one that is literally true has none
     pub head-true : (m : Moved) → t ≡ true → (m .at ≡ q) × (m .progress ≡ f .progress) → Passes f d m
     unfolding Passes Puts headParts flatten-constraint puts
-    head-true m h' u r i enc fs b a z k =
+    head-true m h' u i enc fs b ls a z k =
         let l : literallyTrue a ≡ true = sym (sym h' ∙ h ∙ ap readTrue k) in
         (u .0 ∙ ends a z k, rw (l, u .1))
 
     -- the part of another is counted
     pub head-out : (p : Progress) → t ≡ false → p ≡ passed (f .progress) → Passes f d (record { at = q; progress = p })
     unfolding Passes wanted Puts headParts assertText flatten-constraint puts
-    head-out p h' u r i enc fs b a z k =
+    head-out p h' u i enc fs b ls a z k =
         let l : literallyTrue a ≡ false = sym (sym h' ∙ h ∙ ap readTrue k) in
-        let j : (has r (f .progress .seen) && not false) ≡ false = rw (sym h ∙ h') at i in
-        (ends a z k, rw l (put-out r (f .progress) p b (assertText enc fs a) (out-of (has r (f .progress .seen)) j) u))
+        let j : (has (f .progress .range) (f .progress .seen) && not false) ≡ false = rw (sym h ∙ h') at i in
+        (ends a z k, rw l (put-out (f .progress) p b (assertText enc fs a) ls (out-of (has (f .progress .range) (f .progress .seen)) j) u))
 
 -- the tests of is_wanted
-module _ (r : Range) (n : ℕ) (d : Res Pred) (c : Bool) (e : c ≡ has r n) where
-  pub is-wanted : (t : Bool) → t ≡ readTrue d → c ≡ true → not t ≡ wanted r n d
+module _ (p : Progress) (d : Res Pred) (c : Bool) (e : c ≡ has (p .range) (p .seen)) where
+  pub is-wanted : (t : Bool) → t ≡ readTrue d → c ≡ true → not t ≡ wanted p d
   unfolding wanted
   is-wanted t h e' = rw (← e, e', h)
 
-  pub not-wanted : c ≡ false → false ≡ wanted r n d
+  pub not-wanted : c ≡ false → false ≡ wanted p d
   unfolding wanted
   not-wanted e' = rw (← e, e')
 
 -- what is written
-module _ (r : Range) (d : Res Pred) (f : Moved) (c : Bool) (e : c ≡ wanted r (f .progress .seen) d) where
+module _ (d : Res Pred) (f : Moved) (c : Bool) (e : c ≡ wanted (f .progress) d) where
   -- what is put is a head's part
-  placed-puts : (enc : Encoder) (fs : List ForAll) (w' : Writing) (b : List ℕ) (at : ℕ) → c ≡ true → Places enc fs d (writing (f .progress) b) w' at
-      → Puts (headParts enc fs) r d (writing (f .progress) b) w' at
+  placed-puts : (enc : Encoder) (fs : List ForAll) (w' : Writing) (b ls : List ℕ) (at : ℕ) → c ≡ true → Places enc fs d (writing (f .progress) b ls) w' at
+      → Puts (headParts enc fs) d (writing (f .progress) b ls) w' at
   unfolding wanted Places Puts headParts assertText flatten-constraint puts put
-  placed-puts enc fs w' b at e' w a z k =
+  placed-puts enc fs w' b ls at e' w a z k =
       let v = w a z k in
-      let h = both (has r (f .progress .seen)) (not (readTrue d)) (sym e ∙ e') in
+      let h = both (has (f .progress .range) (f .progress .seen)) (not (readTrue d)) (sym e ∙ e') in
       let l : literallyTrue a ≡ false = sym (ap readTrue k) ∙ not-set (readTrue d) (h .1) in
       (v .0, v .1 ∙ rw (l, h .0))
 
-  module _ (s enc text : List ℕ) (kept : Kept) (b : List ℕ) where
-    pub kept-passed : (m : Moved) → c ≡ false → Passes f d m → KeptPuts s enc text kept r d (writing (f .progress) b) (writing (m .progress) b) (m .at)
+  module _ (s enc text : List ℕ) (kept : Kept) (b ls : List ℕ) where
+    pub kept-passed : (m : Moved) → c ≡ false → Passes f d m → KeptPuts s enc text kept d (writing (f .progress) b ls) (writing (m .progress) b ls) (m .at)
     unfolding KeptPuts Passes
-    kept-passed m e' u fs k = u r (sym e ∙ e') (encoderIn s enc) fs b
+    kept-passed m e' u fs k = u (sym e ∙ e') (encoderIn s enc) fs b ls
 
-    pub measured-wanted : (m : Moved) → c ≡ true → length b ≤ 0 → MeasuredPlaces s enc kept d (writing (f .progress) []) (writing (m .progress) []) (m .at)
-        → KeptPuts s enc text kept r d (writing (f .progress) b) (writing (m .progress) b) (m .at)
+    pub measured-wanted : (m : Moved) (ls' : List ℕ) → c ≡ true → length b ≤ 0 → MeasuredPlaces s enc kept d (writing (f .progress) [] ls) (writing (m .progress) [] ls') (m .at)
+        → KeptPuts s enc text kept d (writing (f .progress) b ls) (writing (m .progress) b ls') (m .at)
     unfolding KeptPuts MeasuredPlaces
-    measured-wanted m e' h w fs k = rw (empty b h) (placed-puts (encoderIn s enc) fs (writing (m .progress) []) [] (m .at) e' (w fs (k .measures)))
+    measured-wanted m ls' e' h w fs k = rw (empty b h) (placed-puts (encoderIn s enc) fs (writing (m .progress) [] ls') [] ls (m .at) e' (w fs (k .measures)))
 
-    pub kept-wanted : (w' : Writing) (at : ℕ) → c ≡ true → KeptPlaces s enc text kept d (writing (f .progress) b) w' at
-        → KeptPuts s enc text kept r d (writing (f .progress) b) w' at
+    pub kept-wanted : (w' : Writing) (at : ℕ) → c ≡ true → KeptPlaces s enc text kept d (writing (f .progress) b ls) w' at
+        → KeptPuts s enc text kept d (writing (f .progress) b ls) w' at
     unfolding KeptPuts KeptPlaces
-    kept-wanted w' at e' w fs k = placed-puts (encoderIn s enc) fs w' b at e' (w fs k)
+    kept-wanted w' at e' w fs k = placed-puts (encoderIn s enc) fs w' b ls at e' (w fs k)
 
-  module _ (enc : Encoder) (path : Res (List ForAll)) (b : List ℕ) where
-    pub path-passed : (m : Moved) → c ≡ false → Passes f d m → PutsUnder (headParts enc) r path d (writing (f .progress) b) (writing (m .progress) b) (m .at)
+  module _ (enc : Encoder) (path : Res (List ForAll)) (b ls : List ℕ) where
+    pub path-passed : (m : Moved) → c ≡ false → Passes f d m → PutsUnder (headParts enc) path d (writing (f .progress) b ls) (writing (m .progress) b ls) (m .at)
     unfolding PutsUnder Passes
-    path-passed m e' u fs q g = u r (sym e ∙ e') enc fs b
+    path-passed m e' u fs q g = u (sym e ∙ e') enc fs b ls
 
-    pub path-wanted : (w' : Writing) (at : ℕ) → c ≡ true → PathPlaces enc path d (writing (f .progress) b) w' at
-        → PutsUnder (headParts enc) r path d (writing (f .progress) b) w' at
+    pub path-wanted : (w' : Writing) (at : ℕ) → c ≡ true → PathPlaces enc path d (writing (f .progress) b ls) w' at
+        → PutsUnder (headParts enc) path d (writing (f .progress) b ls) w' at
     unfolding PutsUnder PathPlaces
-    path-wanted w' at e' w fs q g = placed-puts enc fs w' b at e' (w fs q g)
+    path-wanted w' at e' w fs q g = placed-puts enc fs w' b ls at e' (w fs q g)
 
 -- the assertion of a head that was measured
-pub measured-placed : (s enc : List ℕ) (kept : Kept) (d : Res Pred) (p p' : Progress) (n at : ℕ) → p' ≡ placed p n → MeasuredSends s enc kept d n at
-    → MeasuredPlaces s enc kept d (writing p []) (writing p' []) at
+pub measured-placed : (s enc : List ℕ) (kept : Kept) (d : Res Pred) (p p' : Progress) (ls ls' : List ℕ) (n at : ℕ) → Counted p n ls p' ls' → MeasuredSends s enc kept d n at
+    → MeasuredPlaces s enc kept d (writing p [] ls) (writing p' [] ls') at
 unfolding MeasuredSends MeasuredPlaces Places
-measured-placed s enc kept d p p' n at e w fs k =
-    part-placed (assertText (encoderIn s enc) fs) p p' [] d [] 0 0 n at (omega arith) refl (omega arith) (w fs k) e
+measured-placed s enc kept d p p' ls ls' n at e w fs k =
+    part-placed (assertText (encoderIn s enc) fs) p p' [] ls ls' d [] 0 0 n at (omega arith) refl (omega arith) (w fs k) e
 
 -- the assertion of a head behind what was written
-module _ (s enc : List ℕ) (d : Res Pred) (p p' : Progress) (xs ys : List ℕ) (start z n at : ℕ) (e : start ≡ min (p .len) (length xs)) (e0 : z ≡ 0) (m : length xs ≤ most)
-    (e' : p' ≡ placed p n) where
+module _ (s enc : List ℕ) (d : Res Pred) (p p' : Progress) (xs ys ls ls' : List ℕ) (start z n at : ℕ) (e : start ≡ min (p .len) (length xs)) (e0 : z ≡ 0) (m : length xs ≤ most)
+    (e' : Counted p n ls p' ls') where
   pub kept-placed : (text : List ℕ) (kept : Kept) → KeptSends s enc text kept d (output (take (length xs - start) (drop start xs)) z) (output ys n) at
-      → KeptPlaces s enc text kept d (writing p xs) (writing p' (take start xs ++ (ys ++ drop (length xs - start) (drop start xs)))) at
+      → KeptPlaces s enc text kept d (writing p xs ls) (writing p' (take start xs ++ (ys ++ drop (length xs - start) (drop start xs))) ls') at
   unfolding KeptSends KeptPlaces Places
-  kept-placed text kept w fs k = part-placed (assertText (encoderIn s enc) fs) p p' xs d ys start z n at e e0 m (w fs k) e'
+  kept-placed text kept w fs k = part-placed (assertText (encoderIn s enc) fs) p p' xs ls ls' d ys start z n at e e0 m (w fs k) e'
 
   pub path-placed : (path : Res (List ForAll)) → HeadSends (assertText (encoderIn s enc)) path d (output (take (length xs - start) (drop start xs)) z) (output ys n) at
-      → PathPlaces (encoderIn s enc) path d (writing p xs) (writing p' (take start xs ++ (ys ++ drop (length xs - start) (drop start xs)))) at
+      → PathPlaces (encoderIn s enc) path d (writing p xs ls) (writing p' (take start xs ++ (ys ++ drop (length xs - start) (drop start xs))) ls') at
   unfolding HeadSends PathPlaces Places
-  path-placed path w fs q g = part-placed (assertText (encoderIn s enc) fs) p p' xs d ys start z n at e e0 m (w fs q g) e'
+  path-placed path w fs q g = part-placed (assertText (encoderIn s enc) fs) p p' xs ls ls' d ys start z n at e e0 m (w fs q g) e'
 
 -- where ForAlls stand on a path and all is kept of them, their heads are those of the path
-pub kept-under : (s enc text os : List ℕ) (kept : Kept) (fs : List ForAll) (z : ℕ) (r : Range) (d : Res Pred) (w w' : Writing) (at : ℕ) → onPath s os ≡ got fs z
-    → Keeps (encoderIn s enc) fs text kept → KeptPuts s enc text kept r d w w' at → PutsUnder (headParts (encoderIn s enc)) r (onPath s os) d w w' at
+pub kept-under : (s enc text os : List ℕ) (kept : Kept) (fs : List ForAll) (z : ℕ) (d : Res Pred) (w w' : Writing) (at : ℕ) → onPath s os ≡ got fs z
+    → Keeps (encoderIn s enc) fs text kept → KeptPuts s enc text kept d w w' at → PutsUnder (headParts (encoderIn s enc)) (onPath s os) d w w' at
 unfolding KeptPuts PutsUnder
-kept-under s enc text os kept fs z r d w w' at e k u gs q g =
+kept-under s enc text os kept fs z d w w' at e k u gs q g =
     let n : got fs z ≡ got gs q = sym e ∙ g in
     let i : fs ≡ gs = cc in
     rw i at (u fs k)
@@ -170,9 +169,9 @@ kept-numbers s enc text os kept fs z e k gs q g =
     ap (λ (x : Kept). x .count) (k .measures) ∙ ap (λ (hs : List ForAll). length (guardsOf hs)) i
 
 -- parts that were put, where the walk is behind them
-pub puts-at : {A : Type 0} (parts : List ForAll → A → List (List ℕ)) (r : Range) (path : Res (List ForAll)) (d : Res A) (w : Writing) (b : List ℕ) (m m' : Moved) → m' ≡ m
-    → PutsUnder parts r path d w (writing (m .progress) b) (m .at) → PutsUnder parts r path d w (writing (m' .progress) b) (m' .at)
-puts-at parts r path d w b m m' e u = rw e u
+pub puts-at : {A : Type 0} (parts : List ForAll → A → List (List ℕ)) (path : Res (List ForAll)) (d : Res A) (w : Writing) (b ls : List ℕ) (m m' : Moved) → m' ≡ m
+    → PutsUnder parts path d w (writing (m .progress) b ls) (m .at) → PutsUnder parts path d w (writing (m' .progress) b ls) (m' .at)
+puts-at parts path d w b ls m m' e u = rw e u
 
 -- A CONSTRAINT BY ITS NODE
 
@@ -180,80 +179,80 @@ puts-at parts r path d w b m m' e u = rw e u
 abbrev To : Moved → ℕ → Progress → Type 0
 To m at p = (m .at ≡ at) × (m .progress ≡ p)
 
-module _ (enc : Encoder) (r : Range) (path : Res (List ForAll)) (pr : Progress) (xs : List ℕ) (w' : Writing) (q : ℕ) where
+module _ (enc : Encoder) (path : Res (List ForAll)) (pr : Progress) (xs ls : List ℕ) (w' : Writing) (q : ℕ) where
   -- a constraint that is made of another piece
-  under-map : {B : Type 0} (k : B → Constraint) (x : Res B) → PutsUnder (λ fs b. clauseParts enc fs (k b)) r path x (writing pr xs) w' q
-      → PutsUnder (clauseParts enc) r path (bind x (λ b t. got (k b) t)) (writing pr xs) w' q
+  under-map : {B : Type 0} (k : B → Constraint) (x : Res B) → PutsUnder (λ fs b. clauseParts enc fs (k b)) path x (writing pr xs ls) w' q
+      → PutsUnder (clauseParts enc) path (bind x (λ b t. got (k b) t)) (writing pr xs ls) w' q
   unfolding PutsUnder Puts
   under-map k x u fs z g =
-      runs-then (λ v c. puts r v (clauseParts enc fs c)) (writing pr xs) w' q (λ v b. puts r v (clauseParts enc fs (k b))) x _ (writing pr xs) w' q (u fs z g) (λ b e v.
-      runs-end (λ v c. puts r v (clauseParts enc fs c)) (writing pr xs) w' q (k b) q refl v)
+      runs-then (λ v c. puts v (clauseParts enc fs c)) (writing pr xs ls) w' q (λ v b. puts v (clauseParts enc fs (k b))) x _ (writing pr xs ls) w' q (u fs z g) (λ b e v.
+      runs-end (λ v c. puts v (clauseParts enc fs c)) (writing pr xs ls) w' q (k b) q refl v)
 
   module _ (l : ℕ) (s : List ℕ) (at : ℕ) where
-    pub none-left : l ≡ 0 → PutsUnder (clauseParts enc) r path (decConstraint l s at) (writing pr xs) w' q
+    pub none-left : l ≡ 0 → PutsUnder (clauseParts enc) path (decConstraint l s at) (writing pr xs ls) w' q
     unfolding PutsUnder Puts decConstraint
-    none-left z fs t g = rw z (runs-refused (λ v c. puts r v (clauseParts enc fs c)) (writing pr xs) w' q 3)
+    none-left z fs t g = rw z (runs-refused (λ v c. puts v (clauseParts enc fs c)) (writing pr xs ls) w' q 3)
 
     module _ (node : ConstraintNode) (z : l ≡ 0 → ⊥) (h : ConstraintAt s at node) where
-      pub node-refused : node ≡ constraint-node.Refused → PutsUnder (clauseParts enc) r path (decConstraint l s at) (writing pr xs) w' q
+      pub node-refused : node ≡ constraint-node.Refused → PutsUnder (clauseParts enc) path (decConstraint l s at) (writing pr xs ls) w' q
       unfolding PutsUnder Puts constraintOf
-      node-refused e fs t g = rw (constraint-at l s at node constraint-node.Refused z h e) (runs-refused (λ v c. puts r v (clauseParts enc fs c)) (writing pr xs) w' q 2)
+      node-refused e fs t g = rw (constraint-at l s at node constraint-node.Refused z h e) (runs-refused (λ v c. puts v (clauseParts enc fs c)) (writing pr xs ls) w' q 2)
 
-      pub node-pred : (p : ℕ) (m : Moved) → node ≡ constraint-node.Pred p → To m p pr → PutsUnder (headParts enc) r path (decPred (l - 1) s (m .at)) (writing (m .progress) xs) w' q
-          → PutsUnder (clauseParts enc) r path (decConstraint l s at) (writing pr xs) w' q
+      pub node-pred : (p : ℕ) (m : Moved) → node ≡ constraint-node.Pred p → To m p pr → PutsUnder (headParts enc) path (decPred (l - 1) s (m .at)) (writing (m .progress) xs ls) w' q
+          → PutsUnder (clauseParts enc) path (decConstraint l s at) (writing pr xs ls) w' q
       unfolding constraintOf headParts clauseParts
       node-pred p m e i u = rw (constraint-at l s at node (constraint-node.Pred p) z h e) (under-map Constraint.pred (decPred (l - 1) s p) (rw (i .0, i .1) at u))
 
       pub node-conj : (n p : ℕ) (k : Kept) (m : Row) → node ≡ constraint-node.Conj n p → (m .from .moved .at ≡ p) × (m .from .moved .progress ≡ pr) × (m .from .kept ≡ k) × (m .left ≡ n)
-          → PutsUnder (memberParts enc) r path (many Constraints.none Constraints.more (decConstraint (l - 1)) (m .left) s (m .from .moved .at)) (writing (m .from .moved .progress) xs) w' q
-          → PutsUnder (clauseParts enc) r path (decConstraint l s at) (writing pr xs) w' q
+          → PutsUnder (memberParts enc) path (many Constraints.none Constraints.more (decConstraint (l - 1)) (m .left) s (m .from .moved .at)) (writing (m .from .moved .progress) xs ls) w' q
+          → PutsUnder (clauseParts enc) path (decConstraint l s at) (writing pr xs ls) w' q
       unfolding constraintOf memberParts clauseParts flatten-constraint
       node-conj n p k m e i u =
           rw (constraint-at l s at node (constraint-node.Conj n p) z h e)
           (under-map Constraint.conj (many Constraints.none Constraints.more (decConstraint (l - 1)) n s p) (rw (i .0, i .1, i .3) at u))
 
-      pub node-for-all : (p : ℕ) (m : Moved) → node ≡ constraint-node.ForAll p → To m p pr → PutsUnder (clauseParts enc) r path (forAll (l - 1) s (m .at)) (writing (m .progress) xs) w' q
-          → PutsUnder (clauseParts enc) r path (decConstraint l s at) (writing pr xs) w' q
+      pub node-for-all : (p : ℕ) (m : Moved) → node ≡ constraint-node.ForAll p → To m p pr → PutsUnder (clauseParts enc) path (forAll (l - 1) s (m .at)) (writing (m .progress) xs ls) w' q
+          → PutsUnder (clauseParts enc) path (decConstraint l s at) (writing pr xs ls) w' q
       unfolding constraintOf
       node-for-all p m e i u = rw (constraint-at l s at node (constraint-node.ForAll p) z h e) (rw (i .0, i .1) at u)
 
 -- MEMBERS
 
-member-steps : (enc : Encoder) (r : Range) (fs : List ForAll)
-    → Steps Constraints.none Constraints.more (λ (w : Writing) (c : Constraint). puts r w (clauseParts enc fs c)) (λ w cs. puts r w (memberParts enc fs cs))
+member-steps : (enc : Encoder) (fs : List ForAll)
+    → Steps Constraints.none Constraints.more (λ (w : Writing) (c : Constraint). puts w (clauseParts enc fs c)) (λ w cs. puts w (memberParts enc fs cs))
 unfolding puts clauseParts memberParts flatten-constraints
-member-steps enc r fs = record {
+member-steps enc fs = record {
   none = λ w. refl;
   step = λ w c cs.
-      ap (puts r w) (map-append (write-assert enc) (flatten-constraint c (bindersOf fs) (guardsOf fs)) (flatten-constraints cs (bindersOf fs) (guardsOf fs)))
-      ∙ puts-append r w (write-asserts enc (flatten-constraint c (bindersOf fs) (guardsOf fs))) (write-asserts enc (flatten-constraints cs (bindersOf fs) (guardsOf fs)));
+      ap (puts w) (map-append (write-assert enc) (flatten-constraint c (bindersOf fs) (guardsOf fs)) (flatten-constraints cs (bindersOf fs) (guardsOf fs)))
+      ∙ puts-append w (write-asserts enc (flatten-constraint c (bindersOf fs) (guardsOf fs))) (write-asserts enc (flatten-constraints cs (bindersOf fs) (guardsOf fs)));
 }
 
-module _ (enc : Encoder) (r : Range) (path : Res (List ForAll)) (l : ℕ) (s : List ℕ) (m at : ℕ) (first : Writing) where
+module _ (enc : Encoder) (path : Res (List ForAll)) (l : ℕ) (s : List ℕ) (m at : ℕ) (first : Writing) where
   -- the loop: n members from p on are left
   pub Members : ℕ → ℕ → Writing → Type 0
   Members n p w =
       (fs : List ForAll) (q : ℕ) → path ≡ got fs q
-      → Owing (member-steps enc r fs) (many Constraints.none Constraints.more (decConstraint l) m s at) first (many Constraints.none Constraints.more (decConstraint l) n s p) w
+      → Owing (member-steps enc fs) (many Constraints.none Constraints.more (decConstraint l) m s at) first (many Constraints.none Constraints.more (decConstraint l) n s p) w
 
   pub members-start : Members m at first
   unfolding Members
-  members-start fs q g = owing-start (member-steps enc r fs) (many Constraints.none Constraints.more (decConstraint l) m s at) first
+  members-start fs q g = owing-start (member-steps enc fs) (many Constraints.none Constraints.more (decConstraint l) m s at) first
 
-  pub members-more : (n p : ℕ) (w w' : Writing) (t : ℕ) → 0 < n → Members n p w → PutsUnder (clauseParts enc) r path (decConstraint l s p) w w' t → Members (n - 1) t w'
+  pub members-more : (n p : ℕ) (w w' : Writing) (t : ℕ) → 0 < n → Members n p w → PutsUnder (clauseParts enc) path (decConstraint l s p) w w' t → Members (n - 1) t w'
   unfolding Members PutsUnder Puts
   members-more zero p w w' t h i u fs q g = absurd (omega arith)
   members-more (suc n) p w w' t h i u fs q g =
       let en : suc n - 1 ≡ n = omega arith in
       rw en
-      (owing-more (member-steps enc r fs) (many Constraints.none Constraints.more (decConstraint l) m s at) first (decConstraint l s p) (many Constraints.none Constraints.more (decConstraint l) n s)
+      (owing-more (member-steps enc fs) (many Constraints.none Constraints.more (decConstraint l) m s at) first (decConstraint l s p) (many Constraints.none Constraints.more (decConstraint l) n s)
       w w' t (i fs q g) (u fs q g))
 
-  pub members-end : (n p : ℕ) (w : Writing) → n ≤ 0 → Members n p w → PutsUnder (memberParts enc) r path (many Constraints.none Constraints.more (decConstraint l) m s at) first w p
+  pub members-end : (n p : ℕ) (w : Writing) → n ≤ 0 → Members n p w → PutsUnder (memberParts enc) path (many Constraints.none Constraints.more (decConstraint l) m s at) first w p
   unfolding Members PutsUnder Puts
   members-end n p w h i fs q g =
       let en : n ≡ 0 = omega arith in
-      owing-end (member-steps enc r fs) (many Constraints.none Constraints.more (decConstraint l) m s at) first p w (rw en at (i fs q g))
+      owing-end (member-steps enc fs) (many Constraints.none Constraints.more (decConstraint l) m s at) first p w (rw en at (i fs q g))
 
 -- A FORALL
 
@@ -335,23 +334,23 @@ header-at l s at b ps q d e =
     (ap (λ (x : Header). got (record { binder = x .binder; preds = x .preds }) 0) h)
 
 -- what is under a ForAll too
-under-one : (enc : Encoder) (r : Range) (w : Writing) (fs : List ForAll) (f : ForAll) (c : Constraint)
-    → puts r w (clauseParts enc (fs ++ f ∷ []) c) ≡ puts r w (clauseParts enc fs (Constraint.forAll (f .binder .name) (f .binder .sort) (f .preds) c))
+under-one : (enc : Encoder) (w : Writing) (fs : List ForAll) (f : ForAll) (c : Constraint)
+    → puts w (clauseParts enc (fs ++ f ∷ []) c) ≡ puts w (clauseParts enc fs (Constraint.forAll (f .binder .name) (f .binder .sort) (f .preds) c))
 unfolding clauseParts flatten-constraint
-under-one enc r w fs f c = rw (binders-snoc fs f, guards-snoc fs f)
+under-one enc w fs f c = rw (binders-snoc fs f, guards-snoc fs f)
 
-module _ (enc : Encoder) (r : Range) (s os : List ℕ) (l at : ℕ) (pr : Progress) (xs : List ℕ) (w' : Writing) (t : ℕ) (v : Walked) (e : v ≡ walked headerFault (header l s at)) where
+module _ (enc : Encoder) (s os : List ℕ) (l at : ℕ) (pr : Progress) (xs ls : List ℕ) (w' : Writing) (t : ℕ) (v : Walked) (e : v ≡ walked headerFault (header l s at)) where
   headed : (c : Constraint) (z : ℕ) (h : forAll l s at ≡ got c z) → header l s at ≡ got (record { binder = parts l s at c z h .all .binder; preds = parts l s at c z h .all .preds }) (parts l s at c z h .body)
   headed c z h = let i = parts l s at c z h in rw (i .binds, i .numbers, i .holds)
 
   -- one that is refused in its header
-  pub for-all-unheaded : (k : ℕ) → v ≡ walked-is.Refused k → PutsUnder (clauseParts enc) r (onPath s os) (forAll l s at) (writing pr xs) w' t
+  pub for-all-unheaded : (k : ℕ) → v ≡ walked-is.Refused k → PutsUnder (clauseParts enc) (onPath s os) (forAll l s at) (writing pr xs ls) w' t
   unfolding PutsUnder Puts
   for-all-unheaded k e' fs q g c z h = got-refuse (sym (headed c z h) ∙ refused-is headerFault (header l s at) k (sym e' ∙ e))
 
   -- its body is walked with its offset on the path
   pub for-all-puts : (b : ℕ) (x : Fault) (os' : List ℕ) (j : Moved) → l ≤ deepest → v ≡ walked-is.Next b x → os' ≡ os ++ at ∷ [] → To j b pr
-      → PutsUnder (clauseParts enc) r (onPath s os') (decConstraint l s (j .at)) (writing (j .progress) xs) w' t → PutsUnder (clauseParts enc) r (onPath s os) (forAll l s at) (writing pr xs) w' t
+      → PutsUnder (clauseParts enc) (onPath s os') (decConstraint l s (j .at)) (writing (j .progress) xs ls) w' t → PutsUnder (clauseParts enc) (onPath s os) (forAll l s at) (writing pr xs ls) w' t
   unfolding PutsUnder Puts
   for-all-puts b x os' j d e' o ej i fs y g c z h =
       let a = parts l s at c z h in
@@ -360,7 +359,7 @@ module _ (enc : Encoder) (r : Range) (s os : List ℕ) (l at : ℕ) (pr : Progre
       let stands : forAllAt s at ≡ got (a .all) 0 = header-at l s at (a .all .binder) (a .all .preds) (a .body) d (headed c z h) in
       let on : onPath s os' ≡ got (fs ++ a .all ∷ []) 0 = ap (onPath s) o ∙ on-snoc s os at fs y (a .all) g stands in
       let n = i (fs ++ a .all ∷ []) 0 on (a .inner) z (rw (ej .0, e1) (a .rest)) in
-      (n .0, n .1 ∙ rw (ej .1) (under-one enc r (writing pr xs) fs (a .all) (a .inner) ∙ ap (λ (k : Constraint). puts r (writing pr xs) (clauseParts enc fs k)) (a .is)))
+      (n .0, n .1 ∙ rw (ej .1) (under-one enc (writing pr xs ls) fs (a .all) (a .inner) ∙ ap (λ (k : Constraint). puts (writing pr xs ls) (clauseParts enc fs k)) (a .is)))
 
 -- a header that was read has an offset of two bytes
 pub header-offset : (l : ℕ) (s : List ℕ) (at : ℕ) (v : Walked) (q : ℕ) (f : Fault) → v ≡ walked headerFault (header l s at) → v ≡ walked-is.Next q f → length s < 65536 → at < 65536
@@ -396,14 +395,14 @@ module _ (l : ℕ) (s : List ℕ) (at : ℕ) (known c : Bool) (e : c ≡ (known 
   pub kept-head-stands : (0 < l) × (at < length s)
   kept-head-stands = let h = head-stands l s at true (sym (both known (isHead l s at) (sym e ∙ e') .1)) refl in (h .0, h .1)
 
-  pub kept-head-puts : (enc text os : List ℕ) (kept : Kept) (fs : List ForAll) (z : ℕ) (r : Range) (f m : Moved) (b : List ℕ) (w' : Writing) (t : ℕ) → at ≡ f .at → onPath s os ≡ got fs z
-      → Keeps (encoderIn s enc) fs text kept → (m .at ≡ at + 1) × (m .progress ≡ f .progress) → KeptPuts s enc text kept r (decPred (l - 1) s (m .at)) (writing (m .progress) b) w' t
-      → PutsUnder (clauseParts (encoderIn s enc)) r (onPath s os) (decConstraint l s (f .at)) (writing (f .progress) b) w' t
-  kept-head-puts enc text os kept fs z r f m b w' t ea on k u w =
+  pub kept-head-puts : (enc text os : List ℕ) (kept : Kept) (fs : List ForAll) (z : ℕ) (f m : Moved) (b ls : List ℕ) (w' : Writing) (t : ℕ) → at ≡ f .at → onPath s os ≡ got fs z
+      → Keeps (encoderIn s enc) fs text kept → (m .at ≡ at + 1) × (m .progress ≡ f .progress) → KeptPuts s enc text kept (decPred (l - 1) s (m .at)) (writing (m .progress) b ls) w' t
+      → PutsUnder (clauseParts (encoderIn s enc)) (onPath s os) (decConstraint l s (f .at)) (writing (f .progress) b ls) w' t
+  kept-head-puts enc text os kept fs z f m b ls w' t ea on k u w =
       let n = head-node l s at true (sym (both known (isHead l s at) (sym e ∙ e') .1)) refl in
       rw (← ea)
-      (node-pred (encoderIn s enc) r (onPath s os) (f .progress) b w' t l s at (constraint-node.Pred (at + 1)) (n .0) (n .1) (at + 1) m refl u
-      (kept-under s enc text os kept fs z r (decPred (l - 1) s (m .at)) (writing (m .progress) b) w' t on k w))
+      (node-pred (encoderIn s enc) (onPath s os) (f .progress) b ls w' t l s at (constraint-node.Pred (at + 1)) (n .0) (n .1) (at + 1) m refl u
+      (kept-under s enc text os kept fs z (decPred (l - 1) s (m .at)) (writing (m .progress) b ls) w' t on k w))
 
 -- READY
 

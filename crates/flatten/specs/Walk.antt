@@ -18,7 +18,7 @@ use Rattle.horn_text.specs.Clauses.{ForAll}
 use Rattle.assertion.specs.declared.Kept.{Kept}
 use Rattle.assertion.specs.Kept.{measured, fits, Keeps}
 use Rattle.assertion.specs.Under.{onPath, assertText}
-use Rattle.flatten.specs.declared.Range.{Range}
+use Rattle.flatten.specs.declared.Progress.{Progress}
 use Rattle.flatten.specs.declared.Moved.{Moved}
 use Rattle.flatten.specs.declared.Walk.{Walk}
 use Rattle.flatten.specs.Parts.{Writing, writing, has, place, Puts, headParts}
@@ -43,14 +43,14 @@ abbrev pub enough : ℕ → ℕ → Kept → Bool
 enough size room kept = eqb room 0 || fits size kept
 
 -- the assertion of a head is written: its number is in the range, and it is not literally true
-unfoldable pub wanted : Range → ℕ → Res Pred → Bool
-wanted r n d = has r n && not (readTrue d)
+unfoldable pub wanted : Progress → Res Pred → Bool
+wanted p d = has (p .range) (p .seen) && not (readTrue d)
 
--- A head was passed: its parts are put in every range in which its assertion is not written, whatever is around it.
+-- A head was passed: its parts are put if its assertion is not written, whatever is around it.
 unfoldable pub Passes : Moved → Res Pred → Moved → Type 0
 Passes f d m =
-    (r : Range) → wanted r (f .progress .seen) d ≡ false → (enc : Encoder) (fs : List ForAll) (b : List ℕ)
-    → Puts (headParts enc fs) r d (writing (f .progress) b) (writing (m .progress) b) (m .at)
+    wanted (f .progress) d ≡ false → (enc : Encoder) (fs : List ForAll) (b ls : List ℕ)
+    → Puts (headParts enc fs) d (writing (f .progress) b ls) (writing (m .progress) b ls) (m .at)
 
 -- The assertion of a head was put behind what was written.
 unfoldable pub Places : Encoder → List ForAll → Res Pred → Writing → Writing → ℕ → Type 0
@@ -67,5 +67,5 @@ unfoldable pub PathPlaces : Encoder → Res (List ForAll) → Res Pred → Writi
 PathPlaces enc path d w w' at = (fs : List ForAll) (q : ℕ) → path ≡ got fs q → Places enc fs d w w' at
 
 -- The parts of a head under the ForAlls of which the text is kept were put.
-unfoldable pub KeptPuts : List ℕ → List ℕ → List ℕ → Kept → Range → Res Pred → Writing → Writing → ℕ → Type 0
-KeptPuts s enc text kept r d w w' at = (fs : List ForAll) → Keeps (encoderIn s enc) fs text kept → Puts (headParts (encoderIn s enc) fs) r d w w' at
+unfoldable pub KeptPuts : List ℕ → List ℕ → List ℕ → Kept → Res Pred → Writing → Writing → ℕ → Type 0
+KeptPuts s enc text kept d w w' at = (fs : List ForAll) → Keeps (encoderIn s enc) fs text kept → Puts (headParts (encoderIn s enc) fs) d w w' at

@@ -1,7 +1,7 @@
 // `flatten_constraint` of `smt_horn.rs`: the walk of the constraint with the path of ForAlls. At each head that is not literally true it puts
-// the assertion into the buffer behind the last written byte, if the assertion's number among the parts is in the range. The walk carries how
-// much text the binders and guards of the path have: a ForAll adds what it has for its body and takes it back behind it. So where the buffer
-// is empty an assertion is measured without going over the path.
+// the assertion into the buffer behind the last written byte, and its length into a table, if the assertion's number among the parts is in the
+// range. The walk carries how much text the binders and guards of the path have: a ForAll adds what it has for its body and takes it back behind
+// it. So where the buffer is empty an assertion is measured without going over the path.
 use assertion::Kept;
 use output::Out;
 use path::Path;
@@ -10,8 +10,8 @@ use task_check::Walked;
 ghost use mathlib.Core.Bool.{true, _&&_};
 ghost use mathlib.Core.List.{[]};
 ghost use mathlib.Core.Path.{_≡_};
-ghost use Prim.Native.Nat.{_+_, _≤_, max};
-ghost use lib.ListN.{length};
+ghost use Prim.Native.Nat.{_+_, _-_, _≤_, min, max};
+ghost use lib.ListN.{length, set};
 ghost use Rattle.task.specs.Ast.{Constraints};
 ghost use Rattle.task.specs.Decode.{many, decPred, decConstraint};
 ghost use Rattle.path.specs.Offsets.{entries, Leaves};
@@ -21,7 +21,7 @@ ghost use Rattle.smt_sort.specs.Section.{encoderIn};
 ghost use Rattle.output.specs.Emit.{most};
 ghost use Rattle.assertion.specs.Kept.{plus, minus, Within, fits, Stays, Numbers};
 ghost use Rattle.assertion.specs.Under.{onPath};
-ghost use Rattle.flatten.specs.Parts.{writing, has as hasIn, placed as placedIs, passed as passedIs, PutsUnder, headParts, clauseParts, memberParts};
+ghost use Rattle.flatten.specs.Parts.{writing, has as hasIn, most32, noted, placed as placedIs, passed as passedIs, PutsUnder, headParts, clauseParts, memberParts};
 ghost use Rattle.flatten.specs.Walk.{enough as enoughIs, wanted, Passes, MeasuredPlaces, KeptPlaces, PathPlaces, KeptPuts, Ready, Restores};
 
 // The numbers of the parts that are written: from one up to, not including, another.
@@ -30,8 +30,9 @@ pub struct Range {
     pub to: usize,
 }
 
-// How many parts were met, how many bytes were written and how long the longest written part is.
+// Which parts are written, how many were met, how many bytes were written and how long the longest written part is.
 pub struct Progress {
+    pub range: Range,
     pub seen: usize,
     pub len: usize,
     pub longest: usize,
@@ -63,6 +64,35 @@ fn greatest(a: usize, b: usize) -> usize
         return b;
     }
     a
+}
+
+// The difference of two numbers, or 0.
+fn difference(a: usize, b: usize) -> usize
+    ensures { λ r. ⌜ r ≡ a - b ⌝ }
+{
+    if a < b {
+        return 0;
+    }
+    a - b
+}
+
+// A number in four bytes, or the largest that there is.
+fn narrow(n: usize) -> u32
+    ensures { λ r. ⌜ r ≡ min n most32 ⌝ }
+{
+    if 4294967295 < n {
+        return 4294967295;
+    }
+    n as u32
+}
+
+// Puts a length into a place of the table, if it has that place.
+fn note(lengths: &mut [u32], i: usize, n: usize)
+    ensures { λ r. ⌜ now (lengths .exit) ≡ set (now (lengths .entry)) i (min n most32) ⌝ }
+{
+    if i < lengths.len() {
+        lengths[i] = narrow(n);
+    }
 }
 
 impl Range {
@@ -142,24 +172,36 @@ impl Walk {
 }
 
 impl Progress {
-    pub fn start() -> Progress
-        ensures { λ r. ⌜ (r .seen ≡ 0) × (r .len ≡ 0) × (r .longest ≡ 0) ⌝ }
+    pub fn start(range: Range) -> Progress
+        ensures { λ r. ⌜ (r .range ≡ range) × (r .seen ≡ 0) × (r .len ≡ 0) × (r .longest ≡ 0) ⌝ }
     {
         Progress {
+            range,
             seen: 0,
             len: 0,
             longest: 0,
         }
     }
 
-    // A part of n bytes was written.
-    pub fn placed(self, n: usize) -> Progress
-        ensures { λ r. ⌜ r ≡ placedIs self n ⌝ }
+    // Whether the part that comes next is written.
+    pub fn has_next(self) -> bool
+        ensures { λ r. ⌜ r ≡ hasIn (self .range) (self .seen) ⌝ }
     {
+        let range = self.range;
+        range.has(self.seen)
+    }
+
+    // A part of n bytes was written, and its length is put into the table.
+    pub fn placed(self, n: usize, lengths: &mut [u32]) -> Progress
+        ensures { λ r. ⌜ (r ≡ placedIs self n) × (now (lengths .exit) ≡ noted (self .range) (self .seen) n (now (lengths .entry))) ⌝ }
+    {
+        let range = self.range;
         let seen = self.seen;
         let len = self.len;
         let longest = self.longest;
+        note(lengths, difference(seen, range.from), n);
         Progress {
+            range,
             seen: output::sum(seen, 1),
             len: output::sum(len, n),
             longest: greatest(longest, n),
@@ -170,8 +212,10 @@ impl Progress {
     pub fn passed(self) -> Progress
         ensures { λ r. ⌜ r ≡ passedIs self ⌝ }
     {
+        let range = self.range;
         let seen = self.seen;
         Progress {
+            range,
             seen: output::sum(seen, 1),
             len: self.len,
             longest: self.longest,
@@ -180,11 +224,12 @@ impl Progress {
 }
 
 // Whether the assertion of a head is written: its number is in the range, and it is not literally true.
-fn is_wanted(s: &[u8], at: usize, levels: usize, range: Range, seen: usize) -> bool
-    ensures { λ r. ⌜ r ≡ wanted range seen (decPred levels (now (s .entry)) at) ⌝ }
+fn is_wanted(s: &[u8], from: Moved, levels: usize) -> bool
+    ensures { λ r. ⌜ r ≡ wanted (from .progress) (decPred levels (now (s .entry)) (from .at)) ⌝ }
 {
-    if range.has(seen) {
-        return !task_check::is_literally_true(s, at, levels);
+    let p = from.progress;
+    if p.has_next() {
+        return !task_check::is_literally_true(s, from.at, levels);
     }
     false
 }
@@ -209,9 +254,16 @@ fn pass_head(s: &[u8], from: Moved, levels: usize) -> Moved
 }
 
 // Measures the assertion of a head from the lengths that are kept of the ForAlls around it.
-fn measure_assert(s: &[u8], from: Moved, levels: usize, kept: Kept, enc: &[u16]) -> Moved
+fn measure_assert(
+    s: &[u8],
+    from: Moved,
+    levels: usize,
+    kept: Kept,
+    enc: &[u16],
+    lengths: &mut [u32],
+) -> Moved
     requires { ⌜ Chained (now s) (now enc) ⌝ }
-    ensures { λ r. ⌜ MeasuredPlaces (now (s .entry)) (now (enc .entry)) kept (decPred levels (now (s .entry)) (from .at)) (writing (from .progress) []) (writing (r .progress) []) (r .at) ⌝ }
+    ensures { λ r. ⌜ MeasuredPlaces (now (s .entry)) (now (enc .entry)) kept (decPred levels (now (s .entry)) (from .at)) (writing (from .progress) [] (now (lengths .entry))) (writing (r .progress) [] (now (lengths .exit))) (r .at) ⌝ }
 {
     let at = from.at;
     let p = from.progress;
@@ -219,7 +271,7 @@ fn measure_assert(s: &[u8], from: Moved, levels: usize, kept: Kept, enc: &[u16])
     let out = sent.out;
     Moved {
         at: sent.at,
-        progress: p.placed(out.len),
+        progress: p.placed(out.len, lengths),
     }
 }
 
@@ -232,9 +284,10 @@ fn put_assert(
     text: &[u8],
     enc: &[u16],
     buf: &mut [u8],
+    lengths: &mut [u32],
 ) -> Moved
     requires { ⌜ Chained (now s) (now enc) × (fits (length (now text)) kept ≡ true) ⌝ }
-    ensures { λ r. ⌜ KeptPlaces (now (s .entry)) (now (enc .entry)) (now (text .entry)) kept (decPred levels (now (s .entry)) (from .at)) (writing (from .progress) (now (buf .entry))) (writing (r .progress) (now (buf .exit))) (r .at) ⌝ }
+    ensures { λ r. ⌜ KeptPlaces (now (s .entry)) (now (enc .entry)) (now (text .entry)) kept (decPred levels (now (s .entry)) (from .at)) (writing (from .progress) (now (buf .entry)) (now (lengths .entry))) (writing (r .progress) (now (buf .exit)) (now (lengths .exit))) (r .at) ⌝ }
 {
     let at = from.at;
     let p = from.progress;
@@ -252,7 +305,7 @@ fn put_assert(
     let out = sent.out;
     Moved {
         at: sent.at,
-        progress: p.placed(out.len),
+        progress: p.placed(out.len, lengths),
     }
 }
 
@@ -265,10 +318,11 @@ fn put_long_assert(
     count: u64,
     enc: &[u16],
     buf: &mut [u8],
+    lengths: &mut [u32],
 ) -> Moved
     requires { ⌜ Chained (now s) (now enc) × Leaves path 0 ⌝ }
     requires { ⌜ Numbers (now s) (entries path) count ⌝ }
-    ensures { λ r. ⌜ PathPlaces (encoderIn (now (s .entry)) (now (enc .entry))) (onPath (now (s .entry)) (entries path)) (decPred levels (now (s .entry)) (from .at)) (writing (from .progress) (now (buf .entry))) (writing (r .progress) (now (buf .exit))) (r .at) ⌝ }
+    ensures { λ r. ⌜ PathPlaces (encoderIn (now (s .entry)) (now (enc .entry))) (onPath (now (s .entry)) (entries path)) (decPred levels (now (s .entry)) (from .at)) (writing (from .progress) (now (buf .entry)) (now (lengths .entry))) (writing (r .progress) (now (buf .exit)) (now (lengths .exit))) (r .at) ⌝ }
 {
     let at = from.at;
     let p = from.progress;
@@ -286,7 +340,7 @@ fn put_long_assert(
     let out = sent.out;
     Moved {
         at: sent.at,
-        progress: p.placed(out.len),
+        progress: p.placed(out.len, lengths),
     }
 }
 
@@ -308,20 +362,19 @@ fn flatten_kept_head(
     kept: Kept,
     text: &[u8],
     enc: &[u16],
-    range: Range,
     buf: &mut [u8],
+    lengths: &mut [u32],
 ) -> Moved
     requires { ⌜ Chained (now s) (now enc) × (enoughIs (length (now text)) (length (now buf)) kept ≡ true) ⌝ }
-    ensures { λ r. ⌜ KeptPuts (now (s .entry)) (now (enc .entry)) (now (text .entry)) kept range (decPred levels (now (s .entry)) (from .at)) (writing (from .progress) (now (buf .entry))) (writing (r .progress) (now (buf .exit))) (r .at) ⌝ }
+    ensures { λ r. ⌜ KeptPuts (now (s .entry)) (now (enc .entry)) (now (text .entry)) kept (decPred levels (now (s .entry)) (from .at)) (writing (from .progress) (now (buf .entry)) (now (lengths .entry))) (writing (r .progress) (now (buf .exit)) (now (lengths .exit))) (r .at) ⌝ }
 {
-    let p = from.progress;
-    if !is_wanted(s, from.at, levels, range, p.seen) {
+    if !is_wanted(s, from, levels) {
         return pass_head(s, from, levels);
     }
     if buf.len() == 0 {
-        return measure_assert(s, from, levels, kept, enc);
+        return measure_assert(s, from, levels, kept, enc, lengths);
     }
-    put_assert(s, from, levels, kept, text, enc, buf)
+    put_assert(s, from, levels, kept, text, enc, buf, lengths)
 }
 
 // Any head.
@@ -332,20 +385,19 @@ fn flatten_head(
     path: Path,
     text: &[u8],
     enc: &[u16],
-    range: Range,
     buf: &mut [u8],
+    lengths: &mut [u32],
 ) -> Moved
     requires { ⌜ Ready (now s) (now enc) (now text) path (from .kept) levels ⌝ }
-    ensures { λ r. ⌜ PutsUnder (headParts (encoderIn (now (s .entry)) (now (enc .entry)))) range (onPath (now (s .entry)) (entries path)) (decPred levels (now (s .entry)) (from .moved .at)) (writing (from .moved .progress) (now (buf .entry))) (writing (r .progress) (now (buf .exit))) (r .at) ⌝ }
+    ensures { λ r. ⌜ PutsUnder (headParts (encoderIn (now (s .entry)) (now (enc .entry)))) (onPath (now (s .entry)) (entries path)) (decPred levels (now (s .entry)) (from .moved .at)) (writing (from .moved .progress) (now (buf .entry)) (now (lengths .entry))) (writing (r .progress) (now (buf .exit)) (now (lengths .exit))) (r .at) ⌝ }
 {
     let kept = from.kept;
     let moved = from.moved;
     if is_enough(kept, text.len(), buf.len()) {
-        return flatten_kept_head(s, moved, levels, kept, text, enc, range, buf);
+        return flatten_kept_head(s, moved, levels, kept, text, enc, buf, lengths);
     }
-    let p = moved.progress;
-    if is_wanted(s, moved.at, levels, range, p.seen) {
-        return put_long_assert(s, moved, levels, path, kept.count, enc, buf);
+    if is_wanted(s, moved, levels) {
+        return put_long_assert(s, moved, levels, path, kept.count, enc, buf, lengths);
     }
     pass_head(s, moved, levels)
 }
@@ -367,12 +419,12 @@ pub fn flatten_constraint(
     levels: usize,
     path: Path,
     enc: &[u16],
-    range: Range,
     buf: &mut [u8],
     text: &mut [u8],
+    lengths: &mut [u32],
 ) -> Walk
     requires { ⌜ Ready (now s) (now enc) (now text) path (from .kept) levels ⌝ }
-    ensures { λ r. ⌜ PutsUnder (clauseParts (encoderIn (now (s .entry)) (now (enc .entry)))) range (onPath (now (s .entry)) (entries path)) (decConstraint levels (now (s .entry)) (from .moved .at)) (writing (from .moved .progress) (now (buf .entry))) (writing (r .moved .progress) (now (buf .exit))) (r .moved .at) ⌝ }
+    ensures { λ r. ⌜ PutsUnder (clauseParts (encoderIn (now (s .entry)) (now (enc .entry)))) (onPath (now (s .entry)) (entries path)) (decConstraint levels (now (s .entry)) (from .moved .at)) (writing (from .moved .progress) (now (buf .entry)) (now (lengths .entry))) (writing (r .moved .progress) (now (buf .exit)) (now (lengths .exit))) (r .moved .at) ⌝ }
     ensures { λ r. ⌜ Restores from r ⌝ }
     ensures { λ r. ⌜ Stays (from .kept) (now (text .entry)) (now (text .exit)) ⌝ }
 {
@@ -384,14 +436,14 @@ pub fn flatten_constraint(
     let node = task::read_constraint_node(s, moved.at);
     match node {
         ConstraintNode::Pred(q) => {
-            let head = flatten_head(s, from.to(q), below, path, text, enc, range, buf);
+            let head = flatten_head(s, from.to(q), below, path, text, enc, buf, lengths);
             from.behind(head)
         }
         ConstraintNode::Conj(n, q) => {
-            flatten_members(s, from.row(q, n), below, path, enc, range, buf, text)
+            flatten_members(s, from.row(q, n), below, path, enc, buf, text, lengths)
         }
         ConstraintNode::ForAll(q) => {
-            flatten_for_all(s, from.to(q), below, path, enc, range, buf, text)
+            flatten_for_all(s, from.to(q), below, path, enc, buf, text, lengths)
         }
         ConstraintNode::Refused => from,
     }
@@ -404,12 +456,12 @@ fn flatten_members(
     levels: usize,
     path: Path,
     enc: &[u16],
-    range: Range,
     buf: &mut [u8],
     text: &mut [u8],
+    lengths: &mut [u32],
 ) -> Walk
     requires { ⌜ Ready (now s) (now enc) (now text) path (row .from .kept) levels ⌝ }
-    ensures { λ r. ⌜ PutsUnder (memberParts (encoderIn (now (s .entry)) (now (enc .entry)))) range (onPath (now (s .entry)) (entries path)) (many Constraints.none Constraints.more (decConstraint levels) (row .left) (now (s .entry)) (row .from .moved .at)) (writing (row .from .moved .progress) (now (buf .entry))) (writing (r .moved .progress) (now (buf .exit))) (r .moved .at) ⌝ }
+    ensures { λ r. ⌜ PutsUnder (memberParts (encoderIn (now (s .entry)) (now (enc .entry)))) (onPath (now (s .entry)) (entries path)) (many Constraints.none Constraints.more (decConstraint levels) (row .left) (now (s .entry)) (row .from .moved .at)) (writing (row .from .moved .progress) (now (buf .entry)) (now (lengths .entry))) (writing (r .moved .progress) (now (buf .exit)) (now (lengths .exit))) (r .moved .at) ⌝ }
     ensures { λ r. ⌜ Restores (row .from) r ⌝ }
     ensures { λ r. ⌜ Stays (row .from .kept) (now (text .entry)) (now (text .exit)) ⌝ }
 {
@@ -422,11 +474,12 @@ fn flatten_members(
         left -= 1;
         let at = moved.at;
         if is_kept_head(s, at, levels, enough) {
-            moved = flatten_kept_head(s, moved.to(at + 1), levels - 1, kept, text, enc, range, buf);
+            let head = moved.to(at + 1);
+            moved = flatten_kept_head(s, head, levels - 1, kept, text, enc, buf, lengths);
             continue;
         }
         let walk = Walk { moved, kept };
-        let next = flatten_constraint(s, walk, levels, path, enc, range, buf, text);
+        let next = flatten_constraint(s, walk, levels, path, enc, buf, text, lengths);
         moved = next.moved;
         kept = next.kept;
     }
@@ -440,12 +493,12 @@ fn flatten_for_all(
     levels: usize,
     mut path: Path,
     enc: &[u16],
-    range: Range,
     buf: &mut [u8],
     text: &mut [u8],
+    lengths: &mut [u32],
 ) -> Walk
     requires { ⌜ Ready (now s) (now enc) (now text) path (from .kept) (levels + 1) ⌝ }
-    ensures { λ r. ⌜ PutsUnder (clauseParts (encoderIn (now (s .entry)) (now (enc .entry)))) range (onPath (now (s .entry)) (entries path)) (forAll levels (now (s .entry)) (from .moved .at)) (writing (from .moved .progress) (now (buf .entry))) (writing (r .moved .progress) (now (buf .exit))) (r .moved .at) ⌝ }
+    ensures { λ r. ⌜ PutsUnder (clauseParts (encoderIn (now (s .entry)) (now (enc .entry)))) (onPath (now (s .entry)) (entries path)) (forAll levels (now (s .entry)) (from .moved .at)) (writing (from .moved .progress) (now (buf .entry)) (now (lengths .entry))) (writing (r .moved .progress) (now (buf .exit)) (now (lengths .exit))) (r .moved .at) ⌝ }
     ensures { λ r. ⌜ Restores from r ⌝ }
     ensures { λ r. ⌜ Stays (from .kept) (now (text .entry)) (now (text .exit)) ⌝ }
 {
@@ -457,6 +510,15 @@ fn flatten_for_all(
     };
     let own = assertion::extend(s, at, enc, text, from.kept);
     path = path.push(at);
-    let back = flatten_constraint(s, from.down(body, own), levels, path, enc, range, buf, text);
+    let back = flatten_constraint(
+        s,
+        from.down(body, own),
+        levels,
+        path,
+        enc,
+        buf,
+        text,
+        lengths,
+    );
     back.up(own)
 }

@@ -34,7 +34,7 @@ use Rattle.horn_text.proofs.Returned.{script-returns}
 -- DEMAND 1
 
 -- survey refuses what is no task
-survey-refused : (names : NameTable) (x : Res Task) (n : ℕ) → surveyOf names x ≡ refused n → x ≡ refuse n
+pub survey-refused : (names : NameTable) (x : Res Task) (n : ℕ) → surveyOf names x ≡ refused n → x ≡ refuse n
 survey-refused names (got t end) n e = clash (cc)
 survey-refused names (refuse m) n e = let z : m ≡ n = cc in ap refuse z
 
@@ -56,12 +56,12 @@ script-left names (got t end) n buf e = unchanged 9 (leb (length (scriptOf names
 script-left names (refuse m) n buf e = refl
 
 -- what is behind a test that was passed, or the number if it was not
-by-test : (k : ℕ) (t : Bool) {a : Answer} {n : ℕ} → cond t a (refused k) ≡ refused n → (T t × (a ≡ refused n)) ⊎ (T (not t) × (n ≡ k))
+pub by-test : (k : ℕ) (t : Bool) {a : Answer} {n : ℕ} → cond t a (refused k) ≡ refused n → (T t × (a ≡ refused n)) ⊎ (T (not t) × (n ≡ k))
 by-test k true e = inl (tt, e)
 by-test k false e = inr (tt, cc)
 
 -- a text in a buffer is refused exactly if it is longer, and with 9
-fitted-refused : (text : List ℕ) (room n : ℕ) → (fitted text room ≡ refused n) ↔ ((n ≡ 9) × (room < length text))
+pub fitted-refused : (text : List ℕ) (room n : ℕ) → (fitted text room ≡ refused n) ↔ ((n ≡ 9) × (room < length text))
 fitted-refused text room n = (
   λ e. ⊎-elim (λ h. clash (let z = h .1 in cc)) (λ h. (h .1, nleb→lt (length text) room (h .0))) (by-test 9 (leb (length text) room) e),
   λ h. rw (lt-leb _ _ (h .1), h .0),
@@ -112,13 +112,13 @@ parts-written names file bufs ws h i (suc n) e =
 
 module _ (names : NameTable) (file : List ℕ) (t : Task) (end : ℕ) (e : taskOf file ≡ got t end) where
   -- a buffer with room for part i, as part leaves it
-  part-laid : (i : ℕ) (buf : List ℕ) → i < length (partsOf names t) → length (nth names t i) ≤ length buf
+  pub part-laid : (i : ℕ) (buf : List ℕ) → i < length (partsOf names t) → length (nth names t i) ≤ length buf
       → partBuffer names file i buf ≡ nth names t i ++ drop (length (nth names t i)) buf
   unfolding partBuffer
   part-laid i buf h g = rw (e, lt-ltb _ _ h, le-leb _ _ g)
 
   -- a buffer with room for the script, as script leaves it
-  script-laid : (buf : List ℕ) → length (scriptOf names t) ≤ length buf → scriptBuffer names file buf ≡ scriptOf names t ++ drop (length (scriptOf names t)) buf
+  pub script-laid : (buf : List ℕ) → length (scriptOf names t) ≤ length buf → scriptBuffer names file buf ≡ scriptOf names t ++ drop (length (scriptOf names t)) buf
   unfolding scriptBuffer
   script-laid buf h = rw (e, le-leb _ _ h)
 

@@ -6,3 +6,4 @@ pub mod Refusals
 pub mod Returned
 pub mod Demands
 pub mod Rows
+pub mod RunLaws

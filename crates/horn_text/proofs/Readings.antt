@@ -169,7 +169,7 @@ more {xs = xs} {ys = ys} h k = record {
 }
 
 -- the parts of two rows, joined
-join-append : (us vs : List (List ℕ)) → join (us ++ vs) ≡ join us ++ join vs
+pub join-append : (us vs : List (List ℕ)) → join (us ++ vs) ≡ join us ++ join vs
 join-append [] vs = refl
 join-append (u ∷ us) vs = rw (join-append us vs, append-assoc)
 

@@ -1,9 +1,10 @@
--- What the three calls answer and leave in the buffer, at every table of names, file, number and buffer: document 01, "What each call says no to".
-use Prim.Native.Nat.{ℕ}
+-- What the four calls answer and leave in the buffer, at every table of names, file, number and buffer: document 01, "What each call says no to",
+-- and W-204.
+use Prim.Native.Nat.{ℕ, _+_}
 use mathlib.Core.Bool.{cond}
-use mathlib.Core.List.{List, [], _∷_, _++_}
+use mathlib.Core.List.{List, [], _∷_, _++_, map}
 use lib.Dec.{leb, ltb}
-use lib.ListN.{length, drop, getD}
+use lib.ListN.{length, take, drop, getD}
 use Rattle.task.specs.Ast.{Task}
 use Rattle.task.specs.Decode.{Res, got, refuse}
 use Rattle.task.specs.Task.{taskOf}
@@ -79,3 +80,35 @@ scriptLaid names (refuse n) buf = buf
 -- what is in the buffer then
 unfoldable pub scriptBuffer : NameTable → List ℕ → List ℕ → List ℕ
 scriptBuffer names file buf = scriptLaid names (taskOf file) buf
+
+-- RUN (W-204)
+
+-- "Given a first part, a number of parts": the parts of a run
+abbrev pub runParts : NameTable → Res Task → ℕ → ℕ → List (List ℕ)
+runParts names (got t end) first count = take count (drop first (partsOf names t))
+runParts names (refuse n) first count = []
+
+-- "then 8 if the run passes the last part; then 9 if the joined text exceeds the buffer or the table has fewer places than the run"
+abbrev pub runOf : NameTable → Res Task → ℕ → ℕ → ℕ → ℕ → Answer
+runOf names (got t end) first count room places =
+    cond (leb (first + count) (length (partsOf names t)))
+    (cond (leb count places) (fitted (join (runParts names (got t end) first count)) room) (refused 9))
+    (refused 8)
+runOf names (refuse n) first count room places = refused n
+
+-- the joined length of the parts, for a buffer of so many bytes and a table of so many places; or survey's refusal, then 8, then 9
+unfoldable pub runAnswer : NameTable → List ℕ → ℕ → ℕ → ℕ → ℕ → Answer
+runAnswer names file first count room places = runOf names (taskOf file) first count room places
+
+-- "All of it is written or none": at a success it stands at the start and what is behind it is unchanged, at a refusal all is
+abbrev pub leaves : Answer → List ℕ → List ℕ → List ℕ
+leaves (values ns) written before = written ++ drop (length written) before
+leaves (refused n) written before = before
+
+-- what is in the buffer then: the parts joined
+unfoldable pub runBuffer : NameTable → List ℕ → ℕ → ℕ → List ℕ → List ℕ → List ℕ
+runBuffer names file first count buf table = leaves (runAnswer names file first count (length buf) (length table)) (join (runParts names (taskOf file) first count)) buf
+
+-- what is in the table then: the length of each
+unfoldable pub runTable : NameTable → List ℕ → ℕ → ℕ → List ℕ → List ℕ → List ℕ
+runTable names file first count buf table = leaves (runAnswer names file first count (length buf) (length table)) (map length (runParts names (taskOf file) first count)) table

@@ -7,3 +7,4 @@ pub mod Returns
 pub mod Theorems
 pub mod Table
 pub mod Numbers
+pub mod Runs

@@ -72,7 +72,9 @@ fn print_answer(a: Surveyed) {
             print_counted(len as u64, b" bytes, longest ");
             print_counted(longest as u64, b"\n");
         }
-        Surveyed::Refused(n) => console::print_refused(n as u64),
+        Surveyed::Refused(n) => {
+            console::print_refused(n);
+        }
     }
 }
 

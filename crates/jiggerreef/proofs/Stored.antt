@@ -12,6 +12,7 @@ use Rattle.task.specs.Task.{taskOf}
 use Rattle.smt_text.specs.Editions.{NameTable}
 use Rattle.horn_text.specs.Answers.{Answer, values, refused, surveyNumbers, surveyAnswer}
 use Rattle.horn_text.proofs.Demands.{demand1}
+use Rattle.horn_text.proofs.RunLaws.{run-laws}
 use Rattle.smt_horn.specs.declared.Surveyed.{Surveyed}
 use Rattle.smt_horn.specs.declared.Surveyed.the-variants as survey-is
 use Rattle.smt_horn.specs.declared.Written.{Written}
@@ -29,7 +30,7 @@ pub survey-refused : (w : Surveyed) (n : ℕ) (l : List ℕ) {answer : Answer}
     → w ≡ survey-is.Refused n → surveyed w ≡ answer → (n ≡ number answer) × (l ≡ stored answer l)
 survey-refused w n l e f = rw (← f) (rw e (refl, refl))
 
--- a refusal of part or script
+-- a refusal of part, run or script
 pub refused-stored : (w : Written) (n : ℕ) (l : List ℕ) → w ≡ written-is.Refused n → (n ≡ number (written w)) × (l ≡ stored (written w) l)
 refused-stored w n l e = rw e (refl, refl)
 
@@ -69,4 +70,6 @@ all-told = record {
       (λ t end h n e. ⊎-elim (λ w. omega (arith, w .0)) (λ w. omega (arith, w .0)) (demand1 .part-refuses names file t end h i room n .0 e)));
   script = λ names file room. told _ (above names file _ (λ m. demand1 .script names names file m room)
       (λ t end h n e. omega (arith, demand1 .script-refuses names file t end h room n .0 e .0)));
+  run = λ names file first count room places. told _ (above names file _ (λ m. run-laws .survey names names file m first count room places)
+      (λ t end h n e. ⊎-elim (λ w. omega (arith, w .0)) (λ w. omega (arith, w .0)) (run-laws .refuses names file t end h first count room places n .0 e)));
 }

@@ -1,5 +1,5 @@
-// The archive: `survey`, `part` and `script` for C and Rust. A call answers 0 and stores its values, or it answers the number of its refusal
-// and stores nothing. They ask nothing of the bytes, the edition's number, the index or the buffer's length.
+// The archive: `survey`, `part`, `run` and `script` for C and Rust. A call answers 0 and stores its values, or it answers the number of its refusal
+// and stores nothing. They ask nothing of the bytes, the edition's number, an index, a count or the length of a buffer or a table.
 use smt_horn::Surveyed;
 use smt_horn::Written;
 use smt_text::Edition;
@@ -7,7 +7,7 @@ ghost use mathlib.Core.Path.{_≡_};
 ghost use mathlib.Core.List.{[], _∷_};
 ghost use lib.ListN.{length};
 ghost use Rattle.smt_text.specs.Editions.{namesOf, editionOf};
-ghost use Rattle.horn_text.specs.Answers.{surveyAnswer, partAnswer, partBuffer, scriptAnswer, scriptBuffer};
+ghost use Rattle.horn_text.specs.Answers.{surveyAnswer, partAnswer, partBuffer, scriptAnswer, scriptBuffer, runAnswer, runBuffer, runTable};
 ghost use Rattle.horn_text.specs.Demand.{Promised};
 ghost use Rattle.smt_horn.specs.Calls.{written as answered};
 ghost use Rattle.jiggerreef.specs.Archive.{number, stored};
@@ -64,6 +64,25 @@ pub extern "C" fn jiggerreef_part(
     ensures { λ r. ⌜ (r ≡ number (partAnswer (namesOf (editionOf edition)) (now (file .entry)) i (length (now (buf .entry))))) × (now (len .exit) ∷ [] ≡ stored (partAnswer (namesOf (editionOf edition)) (now (file .entry)) i (length (now (buf .entry)))) (now (len .entry) ∷ [])) × (now (buf .exit) ≡ partBuffer (namesOf (editionOf edition)) (now (file .entry)) i (now (buf .entry))) ⌝ }
 {
     let written = smt_horn::part(file, edition_of(edition), i, buf);
+    store_length(written, len)
+}
+
+// Writes `count` parts from number `first` on, joined, to the buffer's start, the length of each to the table's start, and stores the joined
+// length; or answers survey's refusal, then 8 if there are not as many parts, then 9 if they are longer than the buffer or the table has fewer
+// places.
+#[no_mangle]
+pub extern "C" fn jiggerreef_run(
+    file: &[u8],
+    buf: &mut [u8],
+    lengths: &mut [u32],
+    edition: u8,
+    first: usize,
+    count: usize,
+    len: &mut usize,
+) -> u8
+    ensures { λ r. ⌜ (r ≡ number (runAnswer (namesOf (editionOf edition)) (now (file .entry)) first count (length (now (buf .entry))) (length (now (lengths .entry))))) × (now (len .exit) ∷ [] ≡ stored (runAnswer (namesOf (editionOf edition)) (now (file .entry)) first count (length (now (buf .entry))) (length (now (lengths .entry)))) (now (len .entry) ∷ [])) × (now (buf .exit) ≡ runBuffer (namesOf (editionOf edition)) (now (file .entry)) first count (now (buf .entry)) (now (lengths .entry))) × (now (lengths .exit) ≡ runTable (namesOf (editionOf edition)) (now (file .entry)) first count (now (buf .entry)) (now (lengths .entry))) ⌝ }
+{
+    let written = smt_horn::run(file, edition_of(edition), first, count, buf, lengths);
     store_length(written, len)
 }
 

@@ -2,7 +2,7 @@
 use mathlib.Core.Path.{_≡_, refl, sym, ap, _∙_}
 use mathlib.Core.Bool.{false}
 use mathlib.Core.List.{List, [], _∷_, _++_, map, nil≢cons}
-use Prim.Native.Nat.{ℕ, zero, suc, _+_, _-_, _<_, _≤_}
+use Prim.Native.Nat.{ℕ, zero, suc, _+_, _<_, _≤_}
 use native.Mathlib.Omega.{arith}
 use lib.ListN.{length, take, length-take}
 use borrow.Author.Tests.{le-leb, lt-leb}
@@ -31,7 +31,6 @@ use Rattle.output.proofs.Sent.{emits-append}
 use Rattle.task.specs.Run.{Runs}
 use Rattle.task.proofs.Running.{Steps}
 use Rattle.output.proofs.Sending.{sends-refused, sends-end, sends-map}
-use Rattle.flatten.specs.declared.Range.{Range}
 use Rattle.flatten.specs.declared.Progress.{Progress}
 use Rattle.flatten.specs.Parts.{Writing, writing, has, passed, puts, Puts}
 use Rattle.flatten.proofs.Lending.{put-out}
@@ -40,16 +39,16 @@ use Rattle.parts.specs.Whole.{itemText, itself, alone, commentLines, Put
 
 -- A PART
 
-module _ {A : Type 0} (text : A → List ℕ) (r : Range) (p p' : Progress) (xs : List ℕ) (d : Res A) where
+module _ {A : Type 0} (text : A → List ℕ) (p p' : Progress) (xs ls : List ℕ) (d : Res A) where
   -- not in the range
-  pub part-out : has r (p .seen) ≡ false → p' ≡ passed p → PutsAll (λ a. text a ∷ []) r d (writing p xs) (writing p' xs)
+  pub part-out : has (p .range) (p .seen) ≡ false → p' ≡ passed p → PutsAll (λ a. text a ∷ []) d (writing p xs ls) (writing p' xs ls)
   unfolding PutsAll puts
-  part-out h e a q g = put-out r p p' xs (text a) h e
+  part-out h e a q g = put-out p p' xs (text a) ls h e
 
 -- where it ends is left out
-pub all-of : {A : Type 0} (parts : A → List (List ℕ)) (r : Range) (d : Res A) (w w' : Writing) (at : ℕ) → Puts parts r d w w' at → PutsAll parts r d w w'
+pub all-of : {A : Type 0} (parts : A → List (List ℕ)) (d : Res A) (w w' : Writing) (at : ℕ) → Puts parts d w w' at → PutsAll parts d w w'
 unfolding Puts PutsAll
-all-of parts r d w w' at u a q g = u a q g .1
+all-of parts d w w' at u a q g = u a q g .1
 
 -- COMMENTS
 
@@ -139,50 +138,50 @@ module _ (enc : Encoder) (s : List ℕ) (at : ℕ) (v : Walked) (t : List ℕ) (
   no-item Functions k e e' g = made-none functionFault (write-fun-def enc) (function s at) v e t z g k e'
   no-item KVars k e e' g = made-none kvarFault (write-kvar-decl enc) (kvar s at) v e t z g k e'
 
-module _ (enc : Encoder) (i : Section) (s : List ℕ) (at : ℕ) (r : Range) (v : Walked) (e : v ≡ itemWalk i s at) where
-  pub item-out : (p p' : Progress) (xs : List ℕ) (q : ℕ) (f : Fault) → has r (p .seen) ≡ false → v ≡ walked-is.Next q f → p' ≡ passed p
-      → Puts alone r (itemText enc i s at) (writing p xs) (writing p' xs) q
+module _ (enc : Encoder) (i : Section) (s : List ℕ) (at : ℕ) (v : Walked) (e : v ≡ itemWalk i s at) where
+  pub item-out : (p p' : Progress) (xs ls : List ℕ) (q : ℕ) (f : Fault) → has (p .range) (p .seen) ≡ false → v ≡ walked-is.Next q f → p' ≡ passed p
+      → Puts alone (itemText enc i s at) (writing p xs ls) (writing p' xs ls) q
   unfolding Puts puts
-  item-out p p' xs q f h e' u t z g = (item-ends enc s at v t z i q f e e' g, put-out r p p' xs t h u)
+  item-out p p' xs ls q f h e' u t z g = (item-ends enc s at v t z i q f e e' g, put-out p p' xs t ls h u)
 
-  pub item-refused : (w w' : Writing) (q k : ℕ) → v ≡ walked-is.Refused k → Puts alone r (itemText enc i s at) w w' q
+  pub item-refused : (w w' : Writing) (q k : ℕ) → v ≡ walked-is.Refused k → Puts alone (itemText enc i s at) w w' q
   unfolding Puts
   item-refused w w' q k e' t z g = no-item enc s at v t z i k e e' g
 
 -- the items of a section one by one
-pub section-steps : (r : Range) → Steps [] _∷_ (λ (w : Writing) (t : List ℕ). puts r w (t ∷ [])) (λ w ts. puts r w ts)
+pub section-steps : Steps [] _∷_ (λ (w : Writing) (t : List ℕ). puts w (t ∷ [])) (λ w ts. puts w ts)
 unfolding puts
-section-steps r = record { none = λ w. refl; step = λ w t ts. refl }
+section-steps = record { none = λ w. refl; step = λ w t ts. refl }
 
 -- the loop over a section, which is read in the whole file
-module _ (enc : Encoder) (i : Section) (file : List ℕ) (at end : ℕ) (l : end ≤ length file) (r : Range) (first : Writing) where
+module _ (enc : Encoder) (i : Section) (file : List ℕ) (at end : ℕ) (l : end ≤ length file) (first : Writing) where
   -- the items from q on are left, and what there was at first has become w
   pub Left : ℕ → Writing → Type 0
-  Left q w = Over (section-steps r) (itemText enc i) (item-covers enc i) (take end file) at first q w
+  Left q w = Over section-steps (itemText enc i) (item-covers enc i) (take end file) at first q w
 
   pub left-start : Left at first
   unfolding Left
-  left-start = over-start (section-steps r) (itemText enc i) (item-covers enc i) (take end file) at first
+  left-start = over-start section-steps (itemText enc i) (item-covers enc i) (take end file) at first
 
-  module _ (q : ℕ) (w w' : Writing) (p : ℕ) (h : q < end) (o : Left q w) (u : Puts alone r (itemText enc i file q) w w' p) where
-    whole : Runs (λ (v : Writing) (t : List ℕ). puts r v (t ∷ [])) (itemText enc i (take end file) q) w w' p
+  module _ (q : ℕ) (w w' : Writing) (p : ℕ) (h : q < end) (o : Left q w) (u : Puts alone (itemText enc i file q) w w' p) where
+    whole : Runs (λ (v : Writing) (t : List ℕ). puts v (t ∷ [])) (itemText enc i (take end file) q) w w' p
     unfolding Puts
-    whole = runs-whole (λ (v : Writing) (t : List ℕ). puts r v (t ∷ [])) (itemText enc i) (item-covers enc i) file end q w w' p u
+    whole = runs-whole (λ (v : Writing) (t : List ℕ). puts v (t ∷ [])) (itemText enc i) (item-covers enc i) file end q w w' p u
 
     pub left-more : q < p → Left p w'
     unfolding Left
     left-more g =
         let k = length-take end file in
-        over-more (section-steps r) (itemText enc i) (item-covers enc i) (take end file) at first q w w' p (omega arith) o whole g
+        over-more section-steps (itemText enc i) (item-covers enc i) (take end file) at first q w w' p (omega arith) o whole g
 
-    pub left-stuck : (w'' : Writing) → p ≤ q → PutsAll each r (section (itemText enc i) (take end file) at) first w''
+    pub left-stuck : (w'' : Writing) → p ≤ q → PutsAll each (section (itemText enc i) (take end file) at) first w''
     unfolding Left PutsAll
     left-stuck w'' g a z e =
         let k = length-take end file in
-        over-stuck (section-steps r) (itemText enc i) (item-covers enc i) (take end file) at first q w w' w'' p 0 (omega arith) o whole g a z e .1
+        over-stuck section-steps (itemText enc i) (item-covers enc i) (take end file) at first q w w' w'' p 0 (omega arith) o whole g a z e .1
 
-  pub left-end : (q : ℕ) (w : Writing) → end ≤ q → Left q w → PutsAll each r (section (itemText enc i) (take end file) at) first w
+  pub left-end : (q : ℕ) (w : Writing) → end ≤ q → Left q w → PutsAll each (section (itemText enc i) (take end file) at) first w
   unfolding Left PutsAll
   left-end q w h o a z e =
       let k = length-take end file in
-      over-end (section-steps r) (itemText enc i) (item-covers enc i) (take end file) at first q w (omega arith) o a z e .1
+      over-end section-steps (itemText enc i) (item-covers enc i) (take end file) at first q w (omega arith) o a z e .1

@@ -40,31 +40,31 @@ use Rattle.parts.specs.Whole.{itemText, openingPart, each, PutsAll, sect
 -- DECLARATIONS
 
 -- where a section begins and ends, as the code has it
-pub section-put : (file enc : List ℕ) (b : Bounds) (i : Section) (at end : ℕ) (r : Range) (w w' : Writing) → at ≡ startOf b i → end ≡ endOf b i
-    → PutsAll each r (section (itemText (encoderIn file enc) i) (take end file) at) w w' → PutsAll each r (sectionTexts file enc b i) w w'
-section-put file enc b i at end r w w' e e' u = rw (e, e') at u
+pub section-put : (file enc : List ℕ) (b : Bounds) (i : Section) (at end : ℕ) (w w' : Writing) → at ≡ startOf b i → end ≡ endOf b i
+    → PutsAll each (section (itemText (encoderIn file enc) i) (take end file) at) w w' → PutsAll each (sectionTexts file enc b i) w w'
+section-put file enc b i at end w w' e e' u = rw (e, e') at u
 
-pub declarations-put : (file enc : List ℕ) (b : Bounds) (r : Range) (w w1 w2 w3 w4 : Writing)
-    → PutsAll each r (sectionTexts file enc b Datatypes) w w1
-    → PutsAll each r (sectionTexts file enc b Constants) w1 w2
-    → PutsAll each r (sectionTexts file enc b Functions) w2 w3
-    → PutsAll each r (sectionTexts file enc b KVars) w3 w4 → PutsAll each r (declarationTexts file enc b) w w4
+pub declarations-put : (file enc : List ℕ) (b : Bounds) (w w1 w2 w3 w4 : Writing)
+    → PutsAll each (sectionTexts file enc b Datatypes) w w1
+    → PutsAll each (sectionTexts file enc b Constants) w1 w2
+    → PutsAll each (sectionTexts file enc b Functions) w2 w3
+    → PutsAll each (sectionTexts file enc b KVars) w3 w4 → PutsAll each (declarationTexts file enc b) w w4
 unfolding PutsAll declarationTexts
-declarations-put file enc b r w w1 w2 w3 w4 u1 u2 u3 u4 us q e =
+declarations-put file enc b w w1 w2 w3 w4 u1 u2 u3 u4 us q e =
     let i = bind-got (sectionTexts file enc b Datatypes) _ us q e in
     let j = bind-got (sectionTexts file enc b Constants) _ us q (i .then) in
     let k = bind-got (sectionTexts file enc b Functions) _ us q (j .then) in
     let l = bind-got (sectionTexts file enc b KVars) _ us q (k .then) in
     let all : i .value ++ (j .value ++ (k .value ++ l .value)) ≡ us = cc in
     u4 (l .value) (l .next) (l .first)
-    ∙ ap (λ (v : Writing). puts r v (l .value)) (u3 (k .value) (k .next) (k .first))
-    ∙ ap (λ (v : Writing). puts r (puts r v (k .value)) (l .value)) (u2 (j .value) (j .next) (j .first))
-    ∙ ap (λ (v : Writing). puts r (puts r (puts r v (j .value)) (k .value)) (l .value)) (u1 (i .value) (i .next) (i .first))
-    ∙ sym (chain r w (i .value) (j .value) (k .value) (l .value)) ∙ ap (puts r w) all
+    ∙ ap (λ (v : Writing). puts v (l .value)) (u3 (k .value) (k .next) (k .first))
+    ∙ ap (λ (v : Writing). puts (puts v (k .value)) (l .value)) (u2 (j .value) (j .next) (j .first))
+    ∙ ap (λ (v : Writing). puts (puts (puts v (j .value)) (k .value)) (l .value)) (u1 (i .value) (i .next) (i .first))
+    ∙ sym (chain w (i .value) (j .value) (k .value) (l .value)) ∙ ap (puts w) all
   where
-    chain : (r : Range) (w : Writing) (a b c d : List (List ℕ)) → puts r w (a ++ (b ++ (c ++ d))) ≡ puts r (puts r (puts r (puts r w a) b) c) d
-    chain r w a b c d =
-        puts-append r w a (b ++ (c ++ d)) ∙ puts-append r (puts r w a) b (c ++ d) ∙ puts-append r (puts r (puts r w a) b) c d
+    chain : (w : Writing) (a b c d : List (List ℕ)) → puts w (a ++ (b ++ (c ++ d))) ≡ puts (puts (puts (puts w a) b) c) d
+    chain w a b c d =
+        puts-append w a (b ++ (c ++ d)) ∙ puts-append (puts w a) b (c ++ d) ∙ puts-append (puts (puts w a) b) c d
 
 -- ASSERTIONS
 
@@ -81,11 +81,11 @@ ready-start file enc text p k f h e g = record {
   keeps = keeps-start (encoderIn file enc) text k g;
 }
 
-pub assertions-put : (file enc : List ℕ) (b : Bounds) (os : List ℕ) (r : Range) (w w' : Writing) (q : ℕ) → os ≡ []
-    → PutsUnder (clauseParts (encoderIn file enc)) r (onPath file os) (decConstraint deepest file (b .constraint)) w w' q
-    → PutsAll (assertionParts file enc) r (constraintIn file b) w w'
+pub assertions-put : (file enc : List ℕ) (b : Bounds) (os : List ℕ) (w w' : Writing) (q : ℕ) → os ≡ []
+    → PutsUnder (clauseParts (encoderIn file enc)) (onPath file os) (decConstraint deepest file (b .constraint)) w w' q
+    → PutsAll (assertionParts file enc) (constraintIn file b) w w'
 unfolding PutsAll PutsUnder Puts assertionParts onPath
-assertions-put file enc b os r w w' q e u c p g =
+assertions-put file enc b os w w' q e u c p g =
     u [] 0 (rw e) c p (in-whole (decConstraint deepest) (each-covers .constraints deepest) file (b .end) (b .constraint) c p g) .1
 
 -- THE SCRIPT
@@ -110,45 +110,49 @@ module _ (file enc : List ℕ) (t : Task) (o : Opened file t) (names : entries f
   unfolding assertionParts clauseParts
   asserted = ap (λ (ts : Encoder). write-asserts ts (clausesOf t)) is-encoder
 
-  module _ (r : Range) (w0 w1 w2 w3 w4 w5 : Writing) where
-    put-all : PutsAll openingPart r (section comment (take (bound file 1) file) (bound file 0)) w0 w1 → PutsAll each r (declarationTexts file enc (boundsOf file)) w1 w2
-        → w3 ≡ put r w2 (bytes "\n") → PutsAll (assertionParts file enc) r (constraintIn file (boundsOf file)) w3 w4 → w5 ≡ put r w4 (bytes "\n(check-sat)\n")
-        → w5 ≡ puts r w0 (partsOf (namesIn enc) t)
+  module _ (w0 w1 w2 w3 w4 w5 : Writing) where
+    put-all : PutsAll openingPart (section comment (take (bound file 1) file) (bound file 0)) w0 w1 → PutsAll each (declarationTexts file enc (boundsOf file)) w1 w2
+        → w3 ≡ put w2 (bytes "\n") → PutsAll (assertionParts file enc) (constraintIn file (boundsOf file)) w3 w4 → w5 ≡ put w4 (bytes "\n(check-sat)\n")
+        → w5 ≡ puts w0 (partsOf (namesIn enc) t)
     unfolding PutsAll closing puts
     put-all u1 u2 e3 u4 e5 =
         let ts = encoderOf (namesIn enc) t in
         let ds = declarationParts ts t in
         let cs = write-asserts ts (clausesOf t) in
-        let e1 : w1 ≡ put r w0 (opening (t .comments)) = u1 (t .comments) (o .comments-end) (o .comments) in
-        let e2 : w2 ≡ puts r w1 ds = u2 ds (o .kvars-end) declared in
-        let e4 : w4 ≡ puts r w3 cs = u4 (t .constraint) (bound file 6) (o .constraint) ∙ ap (puts r w3) asserted in
+        let e1 : w1 ≡ put w0 (opening (t .comments)) = u1 (t .comments) (o .comments-end) (o .comments) in
+        let e2 : w2 ≡ puts w1 ds = u2 ds (o .kvars-end) declared in
+        let e4 : w4 ≡ puts w3 cs = u4 (t .constraint) (bound file 6) (o .constraint) ∙ ap (puts w3) asserted in
         rw (e5, e4, e3, e2, e1)
-        (sym (puts-append r (put r w0 (opening (t .comments))) ds (bytes "\n" ∷ (cs ++ closing ∷ []))
-        ∙ puts-append r (put r (puts r (put r w0 (opening (t .comments))) ds) (bytes "\n")) cs (closing ∷ [])))
+        (sym (puts-append (put w0 (opening (t .comments))) ds (bytes "\n" ∷ (cs ++ closing ∷ []))
+        ∙ puts-append (put (puts (put w0 (opening (t .comments))) ds) (bytes "\n")) cs (closing ∷ [])))
 
-script-put : (file enc : List ℕ) (b : Bounds) (r : Range) (w0 w1 w2 w3 w4 w5 : Writing) → PutsAll openingPart r (section comment (take (b .datatypes) file) (b .comments)) w0 w1
-    → PutsAll each r (declarationTexts file enc b) w1 w2 → w3 ≡ put r w2 (bytes "\n") → PutsAll (assertionParts file enc) r (constraintIn file b) w3 w4 → w5 ≡ put r w4 (bytes "\n(check-sat)\n")
-    → PutsScript file enc b r w0 w5
+script-put : (file enc : List ℕ) (b : Bounds) (w0 w1 w2 w3 w4 w5 : Writing) → PutsAll openingPart (section comment (take (b .datatypes) file) (b .comments)) w0 w1
+    → PutsAll each (declarationTexts file enc b) w1 w2 → w3 ≡ put w2 (bytes "\n") → PutsAll (assertionParts file enc) (constraintIn file b) w3 w4 → w5 ≡ put w4 (bytes "\n(check-sat)\n")
+    → PutsScript file enc b w0 w5
 unfolding PutsScript
-script-put file enc b r w0 w1 w2 w3 w4 w5 u1 u2 e3 u4 e5 t end e eb en =
+script-put file enc b w0 w1 w2 w3 w4 w5 u1 u2 e3 u4 e5 t end e eb en =
     subst
-    (λ (x : Bounds). PutsAll openingPart r (section comment (take (x .datatypes) file) (x .comments)) w0 w1 → PutsAll each r (declarationTexts file enc x) w1 w2
-    → PutsAll (assertionParts file enc) r (constraintIn file x) w3 w4 → w5 ≡ puts r w0 (partsOf (namesIn enc) t))
-    (sym eb) (λ v1 v2 v4. put-all file enc t (opened file t end e) en r w0 w1 w2 w3 w4 w5 v1 v2 e3 v4 e5) u1 u2 u4
+    (λ (x : Bounds). PutsAll openingPart (section comment (take (x .datatypes) file) (x .comments)) w0 w1 → PutsAll each (declarationTexts file enc x) w1 w2
+    → PutsAll (assertionParts file enc) (constraintIn file x) w3 w4 → w5 ≡ puts w0 (partsOf (namesIn enc) t))
+    (sym eb) (λ v1 v2 v4. put-all file enc t (opened file t end e) en w0 w1 w2 w3 w4 w5 v1 v2 e3 v4 e5) u1 u2 u4
 
 -- at first nothing was written
-started : (p : Progress) (buf : List ℕ) → (p .seen ≡ 0) × (p .len ≡ 0) × (p .longest ≡ 0) → writing p buf ≡ fresh buf
-started p buf e = λ i. record { seen = e .0 i; len = e .1 i; longest = e .2 i; buf = buf }
+abbrev Started : Progress → Range → Type 0
+Started p r = (p .range ≡ r) × (p .seen ≡ 0) × (p .len ≡ 0) × (p .longest ≡ 0)
 
-pub script-from-start : (file enc : List ℕ) (b : Bounds) (r : Range) (p : Progress) (buf : List ℕ) (w1 w2 w3 w4 w5 : Writing) → (p .seen ≡ 0) × (p .len ≡ 0) × (p .longest ≡ 0)
-    → PutsAll openingPart r (section comment (take (b .datatypes) file) (b .comments)) (writing p buf) w1 → PutsAll each r (declarationTexts file enc b) w1 w2 → w3 ≡ put r w2 (bytes "\n")
-    → PutsAll (assertionParts file enc) r (constraintIn file b) w3 w4 → w5 ≡ put r w4 (bytes "\n(check-sat)\n") → PutsScript file enc b r (fresh buf) w5
-script-from-start file enc b r p buf w1 w2 w3 w4 w5 e u1 u2 e3 u4 e5 =
-    subst (λ (w : Writing). PutsScript file enc b r w w5) (started p buf e) (script-put file enc b r (writing p buf) w1 w2 w3 w4 w5 u1 u2 e3 u4 e5)
+started : (p : Progress) (r : Range) (buf ls : List ℕ) → Started p r → writing p buf ls ≡ fresh r buf ls
+started p r buf ls e = λ i. record { range = e .0 i; seen = e .1 i; len = e .2 i; longest = e .3 i; buf = buf; lengths = ls }
+
+pub script-from-start : (file enc : List ℕ) (b : Bounds) (r : Range) (p : Progress) (buf ls : List ℕ) (w1 w2 w3 w4 w5 : Writing) → Started p r
+    → PutsAll openingPart (section comment (take (b .datatypes) file) (b .comments)) (writing p buf ls) w1 → PutsAll each (declarationTexts file enc b) w1 w2 → w3 ≡ put w2 (bytes "\n")
+    → PutsAll (assertionParts file enc) (constraintIn file b) w3 w4 → w5 ≡ put w4 (bytes "\n(check-sat)\n") → PutsScript file enc b (fresh r buf ls) w5
+script-from-start file enc b r p buf ls w1 w2 w3 w4 w5 e u1 u2 e3 u4 e5 =
+    subst (λ (w : Writing). PutsScript file enc b w w5) (started p r buf ls e) (script-put file enc b (writing p buf ls) w1 w2 w3 w4 w5 u1 u2 e3 u4 e5)
 
 -- measuring is writing into no buffer
-pub measured : (file enc : List ℕ) (b : Bounds) (r : Range) (p : Progress) (buf after : List ℕ) → buf ≡ [] → PutsScript file enc b r (fresh buf) (writing p after) → Measured file enc b r p
+pub measured : (file enc : List ℕ) (b : Bounds) (r : Range) (p : Progress) (buf after ls ls' : List ℕ) → buf ≡ [] → PutsScript file enc b (fresh r buf ls) (writing p after ls')
+    → Measured file enc b r ls p ls'
 unfolding PutsScript Measured
-measured file enc b r p buf after e0 u t end e eb en =
-    let v : writing p after ≡ puts r (fresh []) (partsOf (namesIn enc) t) = u t end e eb en ∙ ap (λ (x : List ℕ). puts r (fresh x) (partsOf (namesIn enc) t)) e0 in
-    (ap (λ (w : Writing). w .seen) v, ap (λ (w : Writing). w .len) v, ap (λ (w : Writing). w .longest) v)
+measured file enc b r p buf after ls ls' e0 u t end e eb en =
+    let v : writing p after ls' ≡ puts (fresh r [] ls) (partsOf (namesIn enc) t) = u t end e eb en ∙ ap (λ (x : List ℕ). puts (fresh r x ls) (partsOf (namesIn enc) t)) e0 in
+    (ap (λ (w : Writing). w .seen) v, ap (λ (w : Writing). w .len) v, ap (λ (w : Writing). w .longest) v, ap (λ (w : Writing). w .lengths) v)

@@ -42,8 +42,8 @@ unfoldable pub commentLines : List (List ℕ) → List ℕ
 commentLines cs = join (map write-comment cs)
 
 -- Where a piece was decoded, its parts were put: where it ends does not matter.
-unfoldable pub PutsAll : {A : Type 0} → (A → List (List ℕ)) → Range → Res A → Writing → Writing → Type 0
-PutsAll {A} parts r d w w' = (a : A) (p : ℕ) → d ≡ got a p → w' ≡ puts r w (parts a)
+unfoldable pub PutsAll : {A : Type 0} → (A → List (List ℕ)) → Res A → Writing → Writing → Type 0
+PutsAll {A} parts d w w' = (a : A) (p : ℕ) → d ≡ got a p → w' ≡ puts w (parts a)
 
 -- the opening as one part
 abbrev pub openingPart : List (List ℕ) → List (List ℕ)
@@ -74,9 +74,9 @@ constraintIn file b = decConstraint deepest (take (b .end) file) (b .constraint)
 unfoldable pub assertionParts : List ℕ → List ℕ → Constraint → List (List ℕ)
 assertionParts file enc c = clauseParts (encoderIn file enc) [] c
 
--- nothing was written, into this buffer
-abbrev pub fresh : List ℕ → Writing
-fresh buf = record { seen = 0; len = 0; longest = 0; buf = buf }
+-- nothing was written of the parts in a range, into this buffer and this table
+abbrev pub fresh : Range → List ℕ → List ℕ → Writing
+fresh r buf lengths = record { range = r; seen = 0; len = 0; longest = 0; buf = buf; lengths = lengths }
 
 -- the names that the set functions have in the edition of a table
 abbrev pub namesIn : List ℕ → NameTable
@@ -88,14 +88,16 @@ EncoderIs = (file enc : List ℕ) (t : Task) → entries file enc ≡ symbolsOf 
 
 -- Where the file holds a task, b is where its sections are and the table has the names that it declares, the task's parts in the range were
 -- put.
-unfoldable pub PutsScript : List ℕ → List ℕ → Bounds → Range → Writing → Writing → Type 0
-PutsScript file enc b r w w' = (t : Task) (end : ℕ) → taskOf file ≡ got t end → b ≡ boundsOf file → entries file enc ≡ symbolsOf t → w' ≡ puts r w (partsOf (namesIn enc) t)
+unfoldable pub PutsScript : List ℕ → List ℕ → Bounds → Writing → Writing → Type 0
+PutsScript file enc b w w' = (t : Task) (end : ℕ) → taskOf file ≡ got t end → b ≡ boundsOf file → entries file enc ≡ symbolsOf t → w' ≡ puts w (partsOf (namesIn enc) t)
 
--- what is counted of it: how many parts there are, how long those in the range are together and how long the longest
-unfoldable pub Measured : List ℕ → List ℕ → Bounds → Range → Progress → Type 0
-Measured file enc b r p =
+-- what is counted of it: how many parts there are, how long those in the range are together and how long the longest, and the lengths of those in
+-- the range, in a table
+unfoldable pub Measured : List ℕ → List ℕ → Bounds → Range → List ℕ → Progress → List ℕ → Type 0
+Measured file enc b r lengths p lengths' =
     (t : Task) (end : ℕ) → taskOf file ≡ got t end → b ≡ boundsOf file → entries file enc ≡ symbolsOf t
-    → (p .seen ≡ puts r (fresh []) (partsOf (namesIn enc) t) .seen) × (p .len ≡ puts r (fresh []) (partsOf (namesIn enc) t) .len) × (p .longest ≡ puts r (fresh []) (partsOf (namesIn enc) t) .longest)
+    → (p .seen ≡ puts (fresh r [] lengths) (partsOf (namesIn enc) t) .seen) × (p .len ≡ puts (fresh r [] lengths) (partsOf (namesIn enc) t) .len)
+    × (p .longest ≡ puts (fresh r [] lengths) (partsOf (namesIn enc) t) .longest) × (lengths' ≡ puts (fresh r [] lengths) (partsOf (namesIn enc) t) .lengths)
 
 -- The file holds a task, and b is where its sections are.
 pub record Accepted (file : List ℕ) (b : Bounds) : Type 0 where

@@ -1,5 +1,5 @@
 // The parts of a script and the walk over those in a range, `write_smt_horn` of `smt_horn.rs`: the opening, the declarations, the blank line,
-// the assertions, the closing. Each is written into the buffer behind the last written byte, and counted.
+// the assertions, the closing. Each is written into the buffer behind the last written byte, its length goes into a table, and it is counted.
 use assertion::Kept;
 use flatten::Moved;
 use flatten::Progress;
@@ -88,31 +88,29 @@ fn write_item(s: &[u8], at: usize, section: Section, enc: &[u16], buf: &mut [u8]
 }
 
 // A fixed text as a part.
-fn put_text(text: &[u8], range: Range, buf: &mut [u8], p: Progress) -> Progress
-    ensures { λ r. ⌜ writing r (now (buf .exit)) ≡ put range (writing p (now (buf .entry))) (now (text .entry)) ⌝ }
+fn put_text(text: &[u8], buf: &mut [u8], p: Progress, lengths: &mut [u32]) -> Progress
+    ensures { λ r. ⌜ writing r (now (buf .exit)) (now (lengths .exit)) ≡ put (writing p (now (buf .entry)) (now (lengths .entry))) (now (text .entry)) ⌝ }
 {
-    let seen = p.seen;
-    if range.has(seen) {
+    if p.has_next() {
         let len = p.len;
         let start = output::least(len, buf.len());
         let fresh = Out::new();
         let sent = fresh.bytes(&mut buf[start..], text);
-        return p.placed(sent.len);
+        return p.placed(sent.len, lengths);
     }
     p.passed()
 }
 
 // The opening as a part.
-fn put_opening(s: &[u8], at: usize, range: Range, buf: &mut [u8], p: Progress) -> Progress
-    ensures { λ r. ⌜ PutsAll openingPart range (sectionOf comment (now (s .entry)) at) (writing p (now (buf .entry))) (writing r (now (buf .exit))) ⌝ }
+fn put_opening(s: &[u8], at: usize, buf: &mut [u8], p: Progress, lengths: &mut [u32]) -> Progress
+    ensures { λ r. ⌜ PutsAll openingPart (sectionOf comment (now (s .entry)) at) (writing p (now (buf .entry)) (now (lengths .entry))) (writing r (now (buf .exit)) (now (lengths .exit))) ⌝ }
 {
-    let seen = p.seen;
-    if range.has(seen) {
+    if p.has_next() {
         let len = p.len;
         let start = output::least(len, buf.len());
         let sent = write_opening(s, at, &mut buf[start..], Out::new());
         let out = sent.out;
-        return p.placed(out.len);
+        return p.placed(out.len, lengths);
     }
     p.passed()
 }
@@ -123,22 +121,21 @@ fn put_item(
     at: usize,
     section: Section,
     enc: &[u16],
-    range: Range,
     buf: &mut [u8],
     p: Progress,
+    lengths: &mut [u32],
 ) -> Moved
     requires { ⌜ Chained (now s) (now enc) ⌝ }
-    ensures { λ r. ⌜ Puts alone range (itemText (encoderIn (now (s .entry)) (now (enc .entry))) section (now (s .entry)) at) (writing p (now (buf .entry))) (writing (r .progress) (now (buf .exit))) (r .at) ⌝ }
+    ensures { λ r. ⌜ Puts alone (itemText (encoderIn (now (s .entry)) (now (enc .entry))) section (now (s .entry)) at) (writing p (now (buf .entry)) (now (lengths .entry))) (writing (r .progress) (now (buf .exit)) (now (lengths .exit))) (r .at) ⌝ }
 {
-    let seen = p.seen;
-    if range.has(seen) {
+    if p.has_next() {
         let len = p.len;
         let start = output::least(len, buf.len());
         let sent = write_item(s, at, section, enc, &mut buf[start..], Out::new());
         let out = sent.out;
         return Moved {
             at: sent.at,
-            progress: p.placed(out.len),
+            progress: p.placed(out.len, lengths),
         };
     }
     let walked = item_check::check_item(s, at, section);
@@ -158,17 +155,17 @@ fn put_section(
     end: usize,
     section: Section,
     enc: &[u16],
-    range: Range,
     buf: &mut [u8],
     p: Progress,
+    lengths: &mut [u32],
 ) -> Progress
     requires { ⌜ Chained (now file) (now enc) × (end ≤ length (now file)) ⌝ }
-    ensures { λ r. ⌜ PutsAll each range (sectionOf (itemText (encoderIn (now (file .entry)) (now (enc .entry))) section) (take end (now (file .entry))) at) (writing p (now (buf .entry))) (writing r (now (buf .exit))) ⌝ }
+    ensures { λ r. ⌜ PutsAll each (sectionOf (itemText (encoderIn (now (file .entry)) (now (enc .entry))) section) (take end (now (file .entry))) at) (writing p (now (buf .entry)) (now (lengths .entry))) (writing r (now (buf .exit)) (now (lengths .exit))) ⌝ }
 {
     let mut q = at;
     let mut progress = p;
     while q < end {
-        let one = put_item(file, q, section, enc, range, buf, progress);
+        let one = put_item(file, q, section, enc, buf, progress, lengths);
         let next = one.at;
         if next <= q {
             return progress;
@@ -185,16 +182,16 @@ fn put_items(
     b: Bounds,
     section: Section,
     enc: &[u16],
-    range: Range,
     buf: &mut [u8],
     p: Progress,
+    lengths: &mut [u32],
 ) -> Progress
     requires { ⌜ Inside (now file) b × Chained (now file) (now enc) ⌝ }
-    ensures { λ r. ⌜ PutsAll each range (sectionTexts (now (file .entry)) (now (enc .entry)) b section) (writing p (now (buf .entry))) (writing r (now (buf .exit))) ⌝ }
+    ensures { λ r. ⌜ PutsAll each (sectionTexts (now (file .entry)) (now (enc .entry)) b section) (writing p (now (buf .entry)) (now (lengths .entry))) (writing r (now (buf .exit)) (now (lengths .exit))) ⌝ }
 {
     let at = trailer::start_of(b, section);
     let end = trailer::end_of(b, section);
-    put_section(file, at, end, section, enc, range, buf, p)
+    put_section(file, at, end, section, enc, buf, p, lengths)
 }
 
 // The declarations in section order, each as a part.
@@ -202,17 +199,17 @@ fn put_declarations(
     file: &[u8],
     b: Bounds,
     enc: &[u16],
-    range: Range,
     buf: &mut [u8],
     p: Progress,
+    lengths: &mut [u32],
 ) -> Progress
     requires { ⌜ Inside (now file) b × Chained (now file) (now enc) ⌝ }
-    ensures { λ r. ⌜ PutsAll each range (declarationTexts (now (file .entry)) (now (enc .entry)) b) (writing p (now (buf .entry))) (writing r (now (buf .exit))) ⌝ }
+    ensures { λ r. ⌜ PutsAll each (declarationTexts (now (file .entry)) (now (enc .entry)) b) (writing p (now (buf .entry)) (now (lengths .entry))) (writing r (now (buf .exit)) (now (lengths .exit))) ⌝ }
 {
-    let p1 = put_items(file, b, Section::Datatypes, enc, range, buf, p);
-    let p2 = put_items(file, b, Section::Constants, enc, range, buf, p1);
-    let p3 = put_items(file, b, Section::Functions, enc, range, buf, p2);
-    put_items(file, b, Section::KVars, enc, range, buf, p3)
+    let p1 = put_items(file, b, Section::Datatypes, enc, buf, p, lengths);
+    let p2 = put_items(file, b, Section::Constants, enc, buf, p1, lengths);
+    let p3 = put_items(file, b, Section::Functions, enc, buf, p2, lengths);
+    put_items(file, b, Section::KVars, enc, buf, p3, lengths)
 }
 
 // The assertions, each as a part. The text of a path is kept in a lent one, whatever that holds: binders in its first half, guards in the other.
@@ -220,13 +217,13 @@ fn put_kept(
     file: &[u8],
     b: Bounds,
     enc: &[u16],
-    range: Range,
     buf: &mut [u8],
     p: Progress,
     text: &mut [u8],
+    lengths: &mut [u32],
 ) -> Progress
     requires { ⌜ Inside (now file) b × Chained (now file) (now enc) ⌝ }
-    ensures { λ r. ⌜ PutsAll (assertionParts (now (file .entry)) (now (enc .entry))) range (constraintIn (now (file .entry)) b) (writing p (now (buf .entry))) (writing r (now (buf .exit))) ⌝ }
+    ensures { λ r. ⌜ PutsAll (assertionParts (now (file .entry)) (now (enc .entry))) (constraintIn (now (file .entry)) b) (writing p (now (buf .entry)) (now (lengths .entry))) (writing r (now (buf .exit)) (now (lengths .exit))) ⌝ }
 {
     let from = Walk {
         moved: Moved {
@@ -235,7 +232,7 @@ fn put_kept(
         },
         kept: Kept::none(),
     };
-    let walk = flatten::flatten_constraint(file, from, 256, Path::empty(), enc, range, buf, text);
+    let walk = flatten::flatten_constraint(file, from, 256, Path::empty(), enc, buf, text, lengths);
     let moved = walk.moved;
     moved.progress
 }
@@ -245,46 +242,53 @@ fn put_assertions(
     file: &[u8],
     b: Bounds,
     enc: &[u16],
-    range: Range,
     buf: &mut [u8],
     p: Progress,
+    lengths: &mut [u32],
 ) -> Progress
     requires { ⌜ Inside (now file) b × Chained (now file) (now enc) ⌝ }
-    ensures { λ r. ⌜ PutsAll (assertionParts (now (file .entry)) (now (enc .entry))) range (constraintIn (now (file .entry)) b) (writing p (now (buf .entry))) (writing r (now (buf .exit))) ⌝ }
+    ensures { λ r. ⌜ PutsAll (assertionParts (now (file .entry)) (now (enc .entry))) (constraintIn (now (file .entry)) b) (writing p (now (buf .entry)) (now (lengths .entry))) (writing r (now (buf .exit)) (now (lengths .exit))) ⌝ }
 {
     if buf.len() == 0 {
         let mut none = [0u8; 0];
-        return put_kept(file, b, enc, range, buf, p, &mut none);
+        return put_kept(file, b, enc, buf, p, &mut none, lengths);
     }
     if file.len() <= 1000 {
         let mut text = [0u8; 4096];
-        return put_kept(file, b, enc, range, buf, p, &mut text);
+        return put_kept(file, b, enc, buf, p, &mut text, lengths);
     }
     let mut text = [0u8; 32768];
-    put_kept(file, b, enc, range, buf, p, &mut text)
+    put_kept(file, b, enc, buf, p, &mut text, lengths)
 }
 
-// Puts the parts in the range into the buffer, one behind the other: what has room is stored, and all is counted. The encoder is a table of
-// the names that the task declares.
-pub fn write_smt_horn(file: &[u8], b: Bounds, enc: &[u16], range: Range, buf: &mut [u8]) -> Progress
+// Puts the parts in the range into the buffer, one behind the other, and their lengths into the table: what has room is stored, and all is
+// counted. The encoder is a table of the names that the task declares.
+pub fn write_smt_horn(
+    file: &[u8],
+    b: Bounds,
+    enc: &[u16],
+    range: Range,
+    buf: &mut [u8],
+    lengths: &mut [u32],
+) -> Progress
     requires { ⌜ Inside (now file) b × Chained (now file) (now enc) ⌝ }
-    ensures { λ r. ⌜ PutsScript (now (file .entry)) (now (enc .entry)) b range (fresh (now (buf .entry))) (writing r (now (buf .exit))) ⌝ }
+    ensures { λ r. ⌜ PutsScript (now (file .entry)) (now (enc .entry)) b (fresh range (now (buf .entry)) (now (lengths .entry))) (writing r (now (buf .exit)) (now (lengths .exit))) ⌝ }
 {
     let end = b.datatypes;
     let at = b.comments;
-    let p0 = Progress::start();
-    let p1 = put_opening(&file[..end], at, range, buf, p0);
-    let p2 = put_declarations(file, b, enc, range, buf, p1);
-    let p3 = put_text(b"\n", range, buf, p2);
-    let p4 = put_assertions(file, b, enc, range, buf, p3);
-    put_text(b"\n(check-sat)\n", range, buf, p4)
+    let p0 = Progress::start(range);
+    let p1 = put_opening(&file[..end], at, buf, p0, lengths);
+    let p2 = put_declarations(file, b, enc, buf, p1, lengths);
+    let p3 = put_text(b"\n", buf, p2, lengths);
+    let p4 = put_assertions(file, b, enc, buf, p3, lengths);
+    put_text(b"\n(check-sat)\n", buf, p4, lengths)
 }
 
-// Counts the parts, and measures those in the range.
-pub fn measure(file: &[u8], b: Bounds, enc: &[u16], range: Range) -> Progress
+// Counts the parts, measures those in the range and puts their lengths into the table.
+pub fn measure(file: &[u8], b: Bounds, enc: &[u16], range: Range, lengths: &mut [u32]) -> Progress
     requires { ⌜ Inside (now file) b × Chained (now file) (now enc) ⌝ }
-    ensures { λ r. ⌜ Measured (now (file .entry)) (now (enc .entry)) b range r ⌝ }
+    ensures { λ r. ⌜ Measured (now (file .entry)) (now (enc .entry)) b range (now (lengths .entry)) r (now (lengths .exit)) ⌝ }
 {
     let mut none = [0u8; 0];
-    write_smt_horn(file, b, enc, range, &mut none)
+    write_smt_horn(file, b, enc, range, &mut none, lengths)
 }

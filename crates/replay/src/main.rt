@@ -1,9 +1,10 @@
-// Replays recorded task files. Each argument is the name of one: NAME.task has its bytes, NAME.answer what the three calls have to answer
+// Replays recorded task files. Each argument is the name of one: NAME.task has its bytes, NAME.answer what the calls have to answer
 // for it in the edition of Z3 and then in that of cvc5. Writes a line for each, `NAME: as recorded`, or `NAME: differs` and then what was answered.
 //
 // An answer is `refused N`, or survey's four numbers with two checksums: of the parts joined, and of the places where they end. It is only
-// given if `part` and `script` agree with it: the script is the parts joined, a buffer one byte short is refused with 9, part P with 8, bytes
-// behind a text and all bytes at a refusal are unchanged.
+// given if `part`, `script` and `run` agree with it: the script is the parts joined, a buffer one byte short is refused with 9, part P with 8,
+// bytes behind a text and all bytes at a refusal are unchanged; all parts in one run and in two have these bytes and, by the table of lengths,
+// these ends.
 use libc::STDOUT_FILENO;
 use output::Out;
 use smt_horn::Surveyed;
@@ -14,6 +15,9 @@ ghost use Rattle.io.specs.Counts.{Counts};
 
 // What every byte of a buffer is before a call.
 const FILLED: u8 = 165;
+
+// What every place of a table of lengths is before a call.
+const MARKED: u32 = 2863311530;
 
 // Checksums are taken modulo this prime number.
 const MODULUS: u64 = 36028797018963913;
@@ -92,7 +96,7 @@ fn answer(out: Out, file: &[u8], edition: Edition, buf: &mut [u8], text: &mut [u
         Surveyed::Sizes(parts, assertions, len, longest) => {
             let joined = join_parts(file, edition, parts, longest, buf);
             let sent = send_sizes(out, text, parts, assertions, len, longest);
-            send_joined(sent, text, file, edition, len, joined, buf)
+            send_joined(sent, text, file, edition, parts, len, joined, buf)
         }
         Surveyed::Refused(n) => send_refused(out, text, file, edition, n, buf),
     }
@@ -124,6 +128,7 @@ fn send_joined(
     text: &mut [u8],
     file: &[u8],
     edition: Edition,
+    parts: usize,
     len: usize,
     joined: Joined,
     buf: &mut [u8],
@@ -134,8 +139,8 @@ fn send_joined(
     if !joined.good {
         return out.bytes(text, b"a part differs\n");
     }
-    if !script_agrees(file, edition, joined.len, joined.bytes, buf) {
-        return out.bytes(text, b"the script differs\n");
+    if !calls_agree(file, edition, parts, joined, buf) {
+        return out.bytes(text, b"the script or a run differs\n");
     }
     let named = out.bytes(text, b"script ");
     let hashed = named.number(text, joined.bytes);
@@ -161,12 +166,14 @@ fn send_refused(
     numbered.byte(text, b'\n')
 }
 
-// Whether `part` and `script` refuse a file with that number and leave the buffer as it was.
+// Whether `part`, `run` and `script` refuse a file with that number and leave the buffer as it was.
 fn all_refuse(file: &[u8], edition: Edition, n: u8, buf: &mut [u8]) -> bool {
+    let mut none = [0u32; 0];
+    let run = is_refused(smt_horn::run(file, edition, 0, 1, buf, &mut none), n);
     let first = is_refused(smt_horn::part(file, edition, 0, buf), n);
     let last = is_refused(smt_horn::part(file, edition, 18446744073709551615, buf), n);
     let whole = is_refused(smt_horn::script(file, edition, buf), n);
-    first && last && whole && is_filled(buf, 0)
+    run && first && last && whole && is_filled(buf, 0)
 }
 
 fn is_refused(w: Written, n: u8) -> bool {
@@ -321,6 +328,184 @@ fn script_agrees(file: &[u8], edition: Edition, len: usize, bytes: u64, buf: &mu
     let unchanged = is_filled(buf, len);
     fill_within(len, buf);
     refused && exact && fits && unchanged
+}
+
+// Whether `script` and `run` agree with the parts one by one.
+fn calls_agree(
+    file: &[u8],
+    edition: Edition,
+    parts: usize,
+    joined: Joined,
+    buf: &mut [u8],
+) -> bool {
+    if !script_agrees(file, edition, joined.len, joined.bytes, buf) {
+        return false;
+    }
+    runs_agree(file, edition, parts, joined, buf)
+}
+
+// Whether runs do, with a table of lengths that has more places than there can be parts.
+fn runs_agree(file: &[u8], edition: Edition, parts: usize, joined: Joined, buf: &mut [u8]) -> bool {
+    let mut lengths = [MARKED; 65536];
+    if !runs_refuse(file, edition, parts, buf, &mut lengths) {
+        return false;
+    }
+    if buf.len() < joined.len {
+        return is_refused(smt_horn::run(file, edition, 0, parts, buf, &mut lengths), 9);
+    }
+    runs_join(file, edition, parts, joined, buf, &mut lengths)
+}
+
+// All parts in one run, and in two.
+fn runs_join(
+    file: &[u8],
+    edition: Edition,
+    parts: usize,
+    joined: Joined,
+    buf: &mut [u8],
+    lengths: &mut [u32],
+) -> bool {
+    let start = Joined {
+        bytes: 1,
+        ends: 1,
+        len: 0,
+        good: true,
+    };
+    let whole = join_run(file, edition, 0, parts, buf, lengths, start);
+    let half = parts / 2;
+    let first = join_run(file, edition, 0, half, buf, lengths, start);
+    let both = join_run(file, edition, half, parts - half, buf, lengths, first);
+    is_same(whole, joined) && is_same(both, joined)
+}
+
+// Whether the parts of two readings have the same bytes and ends, and every call answered as it has to.
+fn is_same(a: Joined, b: Joined) -> bool {
+    a.good && b.good && a.bytes == b.bytes && a.ends == b.ends && a.len == b.len
+}
+
+// Whether runs past the last part are refused with 8, a table one place short is refused with 9, a run of zero parts has length 0, and all leave
+// buffer and table as they were.
+fn runs_refuse(
+    file: &[u8],
+    edition: Edition,
+    parts: usize,
+    buf: &mut [u8],
+    lengths: &mut [u32],
+) -> bool {
+    let none = is_written(smt_horn::run(file, edition, parts, 0, buf, lengths), 0);
+    let short = is_refused(run_within(file, edition, 0, parts, buf, lengths), 9);
+    none && short && runs_pass(file, edition, parts, buf, lengths)
+}
+
+fn runs_pass(
+    file: &[u8],
+    edition: Edition,
+    parts: usize,
+    buf: &mut [u8],
+    lengths: &mut [u32],
+) -> bool {
+    let most: usize = 18446744073709551615;
+    let past = is_refused(smt_horn::run(file, edition, parts, 1, buf, lengths), 8);
+    let far = is_refused(smt_horn::run(file, edition, most, most, buf, lengths), 8);
+    past && far && is_filled(buf, 0) && is_marked(lengths, 0)
+}
+
+// `run` with a table of one place less than it has parts.
+fn run_within(
+    file: &[u8],
+    edition: Edition,
+    first: usize,
+    count: usize,
+    buf: &mut [u8],
+    lengths: &mut [u32],
+) -> Written {
+    if count == 0 {
+        return Written::Refused(0);
+    }
+    let places = output::least(count - 1, lengths.len());
+    smt_horn::run(file, edition, first, count, buf, &mut lengths[..places])
+}
+
+// The parts of a run, and what they come to behind those before them.
+fn join_run(
+    file: &[u8],
+    edition: Edition,
+    first: usize,
+    count: usize,
+    buf: &mut [u8],
+    lengths: &mut [u32],
+    before: Joined,
+) -> Joined
+    requires { ⌜ (before .bytes < 36028797018963913) × (before .ends < 36028797018963913) ⌝ }
+    ensures { λ r. ⌜ (r .bytes < 36028797018963913) × (r .ends < 36028797018963913) ⌝ }
+{
+    let bytes = before.bytes;
+    let ends = before.ends;
+    let start = before.len;
+    let written = smt_horn::run(file, edition, first, count, buf, lengths);
+    let Written::Length(n) = written else {
+        return Joined {
+            bytes,
+            ends,
+            len: start,
+            good: false,
+        };
+    };
+    let hashed = checksum_within(bytes, n, buf);
+    let unchanged = is_filled(buf, n) && is_marked(lengths, count);
+    let told = checksum_of_ends(ends, start, count, lengths);
+    fill_within(n, buf);
+    mark_within(count, lengths);
+    Joined {
+        bytes: hashed,
+        ends: told,
+        len: output::sum(start, n),
+        good: before.good && unchanged,
+    }
+}
+
+// Whether all places from one on are marked.
+fn is_marked(lengths: &[u32], from: usize) -> bool {
+    let n = lengths.len();
+    let mut i = from;
+    while i < n {
+        if lengths[i] != MARKED {
+            return false;
+        }
+        i += 1;
+    }
+    true
+}
+
+// Marks the first n places of the table, or all if it has fewer.
+fn mark_within(n: usize, lengths: &mut [u32]) {
+    let room = output::least(n, lengths.len());
+    let mut i: usize = 0;
+    while i < room {
+        lengths[i] = MARKED;
+        i += 1;
+    }
+}
+
+// The checksum of the ends of n parts, which begin at a place and have the first lengths of the table.
+fn checksum_of_ends(before: u64, start: usize, n: usize, lengths: &[u32]) -> u64
+    requires { ⌜ before < 36028797018963913 ⌝ }
+    ensures { λ r. ⌜ r < 36028797018963913 ⌝ }
+{
+    let room = output::least(n, lengths.len());
+    let mut h = before;
+    let mut end = start;
+    let mut i: usize = 0;
+    while i < room {
+        end = output::sum(end, length_of(lengths[i]));
+        h = checksum_of_number(h, end as u64);
+        i += 1;
+    }
+    h
+}
+
+fn length_of(x: u32) -> usize {
+    x as usize
 }
 
 // The next checksum behind a byte.

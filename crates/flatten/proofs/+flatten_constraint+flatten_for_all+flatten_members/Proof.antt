@@ -41,61 +41,61 @@ use Rattle.task.proofs.read_constraint_node.Reads as read-constraint-node-reads
 use Rattle.flatten.proofs.+flatten_constraint+flatten_for_all+flatten_members.{statement}
 use Rattle.flatten.proofs.+flatten_constraint+flatten_for_all+flatten_members.Tie.{close}
 
-abbrev μ-flatten-constraint : Measures 4 flatten-constraint-kinds.ps ℕ
+abbrev μ-flatten-constraint : Measures 5 flatten-constraint-kinds.ps ℕ
 μ-flatten-constraint κs a = 2 * a .1 .1 .0
 
-abbrev μ-flatten-for-all : Measures 4 flatten-for-all-kinds.ps ℕ
+abbrev μ-flatten-for-all : Measures 5 flatten-for-all-kinds.ps ℕ
 μ-flatten-for-all κs a = 2 * a .1 .1 .0 + 1
 
-abbrev μ-flatten-members : Measures 4 flatten-members-kinds.ps ℕ
+abbrev μ-flatten-members : Measures 5 flatten-members-kinds.ps ℕ
 μ-flatten-members κs a = 2 * a .1 .1 .0 + 1
 
-abbrev flatten-constraint-at : ℕ → In 4 flatten-constraint-kinds.ps
+abbrev flatten-constraint-at : ℕ → In 5 flatten-constraint-kinds.ps
 flatten-constraint-at t =
     and
-    4
+    5
     flatten-constraint-kinds.ps
-    (is 4 flatten-constraint-kinds.ps μ-flatten-constraint t)
+    (is 5 flatten-constraint-kinds.ps μ-flatten-constraint t)
     flatten-constraint.Pre
 
-abbrev flatten-constraint-below : ℕ → In 4 flatten-constraint-kinds.ps
+abbrev flatten-constraint-below : ℕ → In 5 flatten-constraint-kinds.ps
 flatten-constraint-below t =
     and
-    4
+    5
     flatten-constraint-kinds.ps
-    (falls 4 flatten-constraint-kinds.ps _<_ μ-flatten-constraint t)
+    (falls 5 flatten-constraint-kinds.ps _<_ μ-flatten-constraint t)
     flatten-constraint.Pre
 
-abbrev flatten-for-all-at : ℕ → In 4 flatten-for-all-kinds.ps
+abbrev flatten-for-all-at : ℕ → In 5 flatten-for-all-kinds.ps
 flatten-for-all-at t =
     and
-    4
+    5
     flatten-for-all-kinds.ps
-    (is 4 flatten-for-all-kinds.ps μ-flatten-for-all t)
+    (is 5 flatten-for-all-kinds.ps μ-flatten-for-all t)
     flatten-for-all.Pre
 
-abbrev flatten-for-all-below : ℕ → In 4 flatten-for-all-kinds.ps
+abbrev flatten-for-all-below : ℕ → In 5 flatten-for-all-kinds.ps
 flatten-for-all-below t =
     and
-    4
+    5
     flatten-for-all-kinds.ps
-    (falls 4 flatten-for-all-kinds.ps _<_ μ-flatten-for-all t)
+    (falls 5 flatten-for-all-kinds.ps _<_ μ-flatten-for-all t)
     flatten-for-all.Pre
 
-abbrev flatten-members-at : ℕ → In 4 flatten-members-kinds.ps
+abbrev flatten-members-at : ℕ → In 5 flatten-members-kinds.ps
 flatten-members-at t =
     and
-    4
+    5
     flatten-members-kinds.ps
-    (is 4 flatten-members-kinds.ps μ-flatten-members t)
+    (is 5 flatten-members-kinds.ps μ-flatten-members t)
     flatten-members.Pre
 
-abbrev flatten-members-below : ℕ → In 4 flatten-members-kinds.ps
+abbrev flatten-members-below : ℕ → In 5 flatten-members-kinds.ps
 flatten-members-below t =
     and
-    4
+    5
     flatten-members-kinds.ps
-    (falls 4 flatten-members-kinds.ps _<_ μ-flatten-members t)
+    (falls 5 flatten-members-kinds.ps _<_ μ-flatten-members t)
     flatten-members.Pre
 
 -- what the calls in it ask and give
@@ -114,22 +114,22 @@ flatten-constraint-returns : (t : ℕ) → flatten-constraint-lts.Need-returns (
 flatten-constraint-returns t c = (none-left _ _ _ _ _ _ _ _ _ _ (c .if1 .taken), (refl, stays-same _ _))
 
 flatten-constraint-flatten-head-requires : (t : ℕ) → flatten-constraint-lts.Need-flatten-head-requires (flatten-constraint-calls t) (flatten-constraint-at t) flatten-constraint.Post
-flatten-constraint-flatten-head-requires t c κs = ready-fewer _ _ _ _ _ _ (c .before .before .before .before .before .before .before .before .before .before .before .before .before .pre .1) _ _ (omega arith) (c .before .before .to .ensures .2)
+flatten-constraint-flatten-head-requires t c κs = ready-fewer _ _ _ _ _ _ (c .before .before .before .before .before .before .before .before .before .before .before .before .before .before .before .pre .1) _ _ (omega arith) (c .before .before .before .to .ensures .2)
 
 flatten-constraint-flatten-members-requires : (t : ℕ) → flatten-constraint-lts.Need-flatten-members-requires (flatten-constraint-calls t) (flatten-constraint-at t) flatten-constraint.Post
-flatten-constraint-flatten-members-requires t c κs = let far = c .before .before .before .before .before .before .before .before .before .before .before .before .before .pre .0 in (omega arith, ready-fewer _ _ _ _ _ _ (c .before .before .before .before .before .before .before .before .before .before .before .before .before .pre .1) _ _ (omega arith) (c .before .before .row .ensures .2))
+flatten-constraint-flatten-members-requires t c κs = let far = c .before .before .before .before .before .before .before .before .before .before .before .before .before .before .before .pre .0 in (omega arith, ready-fewer _ _ _ _ _ _ (c .before .before .before .before .before .before .before .before .before .before .before .before .before .before .before .pre .1) _ _ (omega arith) (c .before .before .before .row .ensures .2))
 
 flatten-constraint-flatten-for-all-requires : (t : ℕ) → flatten-constraint-lts.Need-flatten-for-all-requires (flatten-constraint-calls t) (flatten-constraint-at t) flatten-constraint.Post
-flatten-constraint-flatten-for-all-requires t c κs = let far = c .before .before .before .before .before .before .before .before .before .before .before .before .before .pre .0 in (omega arith, ready-fewer _ _ _ _ _ _ (c .before .before .before .before .before .before .before .before .before .before .before .before .before .pre .1) _ _ (omega arith) (c .before .before .to2 .ensures .2))
+flatten-constraint-flatten-for-all-requires t c κs = let far = c .before .before .before .before .before .before .before .before .before .before .before .before .before .before .before .pre .0 in (omega arith, ready-fewer _ _ _ _ _ _ (c .before .before .before .before .before .before .before .before .before .before .before .before .before .before .before .pre .1) _ _ (omega arith) (c .before .before .before .to2 .ensures .2))
 
 flatten-constraint-returns-2 : (t : ℕ) → flatten-constraint-lts.Need-returns-2 (flatten-constraint-calls t) (flatten-constraint-at t) flatten-constraint.Post
-flatten-constraint-returns-2 t c = (puts-at _ _ _ _ _ _ _ _ (c .behind .ensures .0) (node-pred _ _ _ _ _ _ _ _ _ _ _ (c .before .before .before .before .before .before .before .before .before .before .before .before .if1 .left) (c .before .before .before .before .before .before .before .before .before .before .read-constraint-node .ensures) _ _ (c .before .before .before .before .before .before .before .before .node .given .1) (c .before .before .before .before .before .before .to .ensures .0, c .before .before .before .before .before .before .to .ensures .1) (c .before .before .before .flatten-head .ensures)), (c .behind .ensures .1, stays-same _ _))
+flatten-constraint-returns-2 t c = (puts-at _ _ _ _ _ _ _ _ (c .behind .ensures .0) (node-pred _ _ _ _ _ _ _ _ _ _ _ (c .before .before .before .before .before .before .before .before .before .before .before .before .before .before .before .if1 .left) (c .before .before .before .before .before .before .before .before .before .before .before .before .before .read-constraint-node .ensures) _ _ (c .before .before .before .before .before .before .before .before .before .before .before .node .given .1) (c .before .before .before .before .before .before .before .before .before .to .ensures .0, c .before .before .before .before .before .before .before .before .before .to .ensures .1) (c .before .before .before .before .before .flatten-head .ensures)), (c .behind .ensures .1, stays-same _ _))
 
 flatten-constraint-returns-3 : (t : ℕ) → flatten-constraint-lts.Need-returns-3 (flatten-constraint-calls t) (flatten-constraint-at t) flatten-constraint.Post
-flatten-constraint-returns-3 t c = (node-conj _ _ _ _ _ _ _ _ _ _ _ (c .before .before .before .before .before .before .before .before .before .before .before .before .before .if1 .left) (c .before .before .before .before .before .before .before .before .before .before .before .read-constraint-node .ensures) _ _ _ _ (c .before .before .before .before .before .before .before .before .before .node2 .given .1) (c .before .before .before .before .before .before .before .row .ensures) (c .before .before .before .before .flatten-members .ensures .0), (c .before .before .before .before .flatten-members .ensures .1 .0 ∙ c .before .before .before .before .before .before .before .row .ensures .2, stays-kept _ _ _ _ (c .before .before .before .before .before .before .before .row .ensures .2) (c .before .before .before .before .flatten-members .ensures .1 .1)))
+flatten-constraint-returns-3 t c = (node-conj _ _ _ _ _ _ _ _ _ _ _ (c .before .before .before .before .before .before .before .before .before .before .before .before .before .before .before .before .if1 .left) (c .before .before .before .before .before .before .before .before .before .before .before .before .before .before .read-constraint-node .ensures) _ _ _ _ (c .before .before .before .before .before .before .before .before .before .before .before .before .node2 .given .1) (c .before .before .before .before .before .before .before .before .before .before .row .ensures) (c .before .before .before .before .before .before .flatten-members .ensures .0), (c .before .before .before .before .before .before .flatten-members .ensures .1 .0 ∙ c .before .before .before .before .before .before .before .before .before .before .row .ensures .2, stays-kept _ _ _ _ (c .before .before .before .before .before .before .before .before .before .before .row .ensures .2) (c .before .before .before .before .before .before .flatten-members .ensures .1 .1)))
 
 flatten-constraint-returns-4 : (t : ℕ) → flatten-constraint-lts.Need-returns-4 (flatten-constraint-calls t) (flatten-constraint-at t) flatten-constraint.Post
-flatten-constraint-returns-4 t c = (node-for-all _ _ _ _ _ _ _ _ _ _ _ (c .before .before .before .before .before .before .before .before .before .before .before .before .before .if1 .left) (c .before .before .before .before .before .before .before .before .before .before .before .read-constraint-node .ensures) _ _ (c .before .before .before .before .before .before .before .before .before .node3 .given .1) (c .before .before .before .before .before .before .before .to2 .ensures .0, c .before .before .before .before .before .before .before .to2 .ensures .1) (c .before .before .before .before .flatten-for-all .ensures .0), (c .before .before .before .before .flatten-for-all .ensures .1 .0 ∙ c .before .before .before .before .before .before .before .to2 .ensures .2, stays-kept _ _ _ _ (c .before .before .before .before .before .before .before .to2 .ensures .2) (c .before .before .before .before .flatten-for-all .ensures .1 .1)))
+flatten-constraint-returns-4 t c = (node-for-all _ _ _ _ _ _ _ _ _ _ _ (c .before .before .before .before .before .before .before .before .before .before .before .before .before .before .before .before .if1 .left) (c .before .before .before .before .before .before .before .before .before .before .before .before .before .before .read-constraint-node .ensures) _ _ (c .before .before .before .before .before .before .before .before .before .before .before .before .node3 .given .1) (c .before .before .before .before .before .before .before .before .before .before .to2 .ensures .0, c .before .before .before .before .before .before .before .before .before .before .to2 .ensures .1) (c .before .before .before .before .before .before .flatten-for-all .ensures .0), (c .before .before .before .before .before .before .flatten-for-all .ensures .1 .0 ∙ c .before .before .before .before .before .before .before .before .before .before .to2 .ensures .2, stays-kept _ _ _ _ (c .before .before .before .before .before .before .before .before .before .before .to2 .ensures .2) (c .before .before .before .before .before .before .flatten-for-all .ensures .1 .1)))
 
 flatten-constraint-returns-5 : (t : ℕ) → flatten-constraint-lts.Need-returns-5 (flatten-constraint-calls t) (flatten-constraint-at t) flatten-constraint.Post
 flatten-constraint-returns-5 t c = (node-refused _ _ _ _ _ _ _ _ _ _ _ (c .before .before .before .before .if1 .left) (c .before .before .read-constraint-node .ensures) (c .enum-told .given .1), (refl, stays-same _ _))
@@ -138,51 +138,54 @@ flatten-for-all-returns : (t : ℕ) → flatten-for-all-lts.Need-returns (flatte
 flatten-for-all-returns t c = (for-all-unheaded _ _ _ _ _ _ _ _ _ _ _ (c .before .before .check-header .ensures) _ (c .enum-told .given .1), (refl, stays-same _ _))
 
 flatten-for-all-extend-requires : (t : ℕ) → flatten-for-all-lts.Need-extend-requires (flatten-for-all-calls t) (flatten-for-all-at t) flatten-for-all.Post
-flatten-for-all-extend-requires t c κs = (c .before .before .before .before .before .before .before .before .before .before .pre .1 .chained, c .before .before .before .before .before .before .before .before .before .before .pre .1 .short)
+flatten-for-all-extend-requires t c κs = (c .before .before .before .before .before .before .before .before .before .before .before .pre .1 .chained, c .before .before .before .before .before .before .before .before .before .before .before .pre .1 .short)
 
 flatten-for-all-push-requires : (t : ℕ) → flatten-for-all-lts.Need-push-requires (flatten-for-all-calls t) (flatten-for-all-at t) flatten-for-all.Post
-flatten-for-all-push-requires t c κs = let room = c .before .before .before .before .before .before .before .before .before .before .before .before .before .pre .1 .leaves .within in (omega arith, header-offset _ _ _ _ _ _ (c .before .before .before .before .before .before .before .check-header .ensures) (c .before .before .before .before .before .header .given .1) (c .before .before .before .before .before .before .before .before .before .before .before .before .before .pre .1 .short))
+flatten-for-all-push-requires t c κs = let room = c .before .before .before .before .before .before .before .before .before .before .before .before .before .before .pre .1 .leaves .within in (omega arith, header-offset _ _ _ _ _ _ (c .before .before .before .before .before .before .before .check-header .ensures) (c .before .before .before .before .before .header .given .1) (c .before .before .before .before .before .before .before .before .before .before .before .before .before .before .pre .1 .short))
 
 flatten-for-all-down-requires : (t : ℕ) → flatten-for-all-lts.Need-down-requires (flatten-for-all-calls t) (flatten-for-all-at t) flatten-for-all.Post
-flatten-for-all-down-requires t c κs = own-added _ _ _ _ _ _ _ _ _ (c .before .before .before .before .before .before .before .before .before .before .before .before .before .before .pre .1) _ _ _ (c .before .before .before .before .before .before .before .before .check-header .ensures) (c .before .before .before .before .before .before .header .given .1) (c .before .before .before .extend .ensures) (c .before .before .before .before .before .before .before .before .before .before .before .before .before .shared-slice-known .given)
+flatten-for-all-down-requires t c κs = own-added _ _ _ _ _ _ _ _ _ (c .before .before .before .before .before .before .before .before .before .before .before .before .before .before .before .pre .1) _ _ _ (c .before .before .before .before .before .before .before .before .check-header .ensures) (c .before .before .before .before .before .before .header .given .1) (c .before .before .before .extend .ensures) (c .before .before .before .before .before .before .before .before .before .before .before .before .before .before .shared-slice-known .given)
 
 flatten-for-all-flatten-constraint-requires : (t : ℕ) → flatten-for-all-lts.Need-flatten-constraint-requires (flatten-for-all-calls t) (flatten-for-all-at t) flatten-for-all.Post
-flatten-for-all-flatten-constraint-requires t c κs = let far = c .before .before .before .before .before .before .before .before .before .before .before .before .before .before .before .before .before .pre .0 in (omega arith, ready-pushed _ _ _ _ _ _ _ _ _ (c .before .before .before .before .before .before .before .before .before .before .before .before .before .before .before .before .before .pre .1) _ _ _ (c .before .before .before .before .before .before .before .before .before .before .before .check-header .ensures) (c .before .before .before .before .before .before .before .before .before .header .given .1) (c .before .before .before .before .before .before .extend .ensures) _ (c .before .before .down .ensures .2) _ (c .before .before .before .push .ensures))
+flatten-for-all-flatten-constraint-requires t c κs = let far = c .before .before .before .before .before .before .before .before .before .before .before .before .before .before .before .before .before .before .before .pre .0 in (omega arith, ready-pushed _ _ _ _ _ _ _ _ _ (c .before .before .before .before .before .before .before .before .before .before .before .before .before .before .before .before .before .before .before .pre .1) _ _ _ (c .before .before .before .before .before .before .before .before .before .before .before .before .check-header .ensures) (c .before .before .before .before .before .before .before .before .before .before .header .given .1) (c .before .before .before .before .before .before .before .extend .ensures) _ (c .before .before .before .down .ensures .2) _ (c .before .before .before .before .push .ensures))
 
 flatten-for-all-up-requires : (t : ℕ) → flatten-for-all-lts.Need-up-requires (flatten-for-all-calls t) (flatten-for-all-at t) flatten-for-all.Post
-flatten-for-all-up-requires t c κs = own-within _ _ _ _ (c .before .before .before .before .before .before .before .down .ensures .2) (c .before .before .before .before .flatten-constraint .ensures .1 .0)
+flatten-for-all-up-requires t c κs = own-within _ _ _ _ (c .before .before .before .before .before .before .before .before .before .before .down .ensures .2) (c .before .before .before .before .before .before .flatten-constraint .ensures .1 .0)
+
+flatten-for-all-same-length-2 : (t : ℕ) → flatten-for-all-lts.Need-same-length-2 (flatten-for-all-calls t) (flatten-for-all-at t) flatten-for-all.Post
+flatten-for-all-same-length-2 t c = stays-inside _ _ _ _ _ _ _ _ _ (c .before .before .before .before .before .before .before .before .before .before .before .before .before .before .before .before .before .before .before .before .before .before .before .before .before .before .before .pre .1) _ _ _ (c .before .before .before .before .before .before .before .before .before .before .before .before .before .before .before .before .before .before .before .before .check-header .ensures) (c .before .before .before .before .before .before .before .before .before .before .before .before .before .before .before .before .before .before .header .given .1) (c .before .before .before .before .before .before .before .before .before .before .before .before .before .before .before .extend .ensures) _ (c .before .before .before .before .before .before .before .before .before .before .before .down .ensures .2) _ (c .before .before .before .before .before .before .before .flatten-constraint .ensures .1 .1) .size
 
 flatten-for-all-returns-2 : (t : ℕ) → flatten-for-all-lts.Need-returns-2 (flatten-for-all-calls t) (flatten-for-all-at t) flatten-for-all.Post
-flatten-for-all-returns-2 t c = let room = c .before .before .before .before .before .before .before .before .before .before .before .before .before .before .before .before .before .before .before .before .before .before .before .pre .1 .leaves .within in (puts-at _ _ _ _ _ _ _ _ (c .up .ensures .0) (for-all-puts _ _ _ _ _ _ _ _ _ _ _ (c .before .before .before .before .before .before .before .before .before .before .before .before .before .before .before .before .before .check-header .ensures) _ _ _ _ (omega arith) (c .before .before .before .before .before .before .before .before .before .before .before .before .before .before .before .header .given .1) (c .before .before .before .before .before .before .before .before .before .push .ensures .0) (c .before .before .before .before .before .before .before .before .down .ensures .0, c .before .before .before .before .before .before .before .before .down .ensures .1) (c .before .before .before .before .before .flatten-constraint .ensures .0)), (own-back _ _ _ _ _ (c .before .before .before .before .before .before .before .before .down .ensures .2) (c .before .before .before .before .before .flatten-constraint .ensures .1 .0) (c .up .ensures .1), stays-inside _ _ _ _ _ _ _ _ _ (c .before .before .before .before .before .before .before .before .before .before .before .before .before .before .before .before .before .before .before .before .before .before .before .pre .1) _ _ _ (c .before .before .before .before .before .before .before .before .before .before .before .before .before .before .before .before .before .check-header .ensures) (c .before .before .before .before .before .before .before .before .before .before .before .before .before .before .before .header .given .1) (c .before .before .before .before .before .before .before .before .before .before .before .before .extend .ensures) _ (c .before .before .before .before .before .before .before .before .down .ensures .2) _ (c .before .before .before .before .before .flatten-constraint .ensures .1 .1)))
+flatten-for-all-returns-2 t c = let room = c .before .before .before .before .before .before .before .before .before .before .before .before .before .before .before .before .before .before .before .before .before .before .before .before .before .before .before .pre .1 .leaves .within in (puts-at _ _ _ _ _ _ _ _ (c .up .ensures .0) (for-all-puts _ _ _ _ _ _ _ _ _ _ _ (c .before .before .before .before .before .before .before .before .before .before .before .before .before .before .before .before .before .before .before .before .check-header .ensures) _ _ _ _ (omega arith) (c .before .before .before .before .before .before .before .before .before .before .before .before .before .before .before .before .before .before .header .given .1) (c .before .before .before .before .before .before .before .before .before .before .before .before .push .ensures .0) (c .before .before .before .before .before .before .before .before .before .before .before .down .ensures .0, c .before .before .before .before .before .before .before .before .before .before .before .down .ensures .1) (c .before .before .before .before .before .before .before .flatten-constraint .ensures .0)), (own-back _ _ _ _ _ (c .before .before .before .before .before .before .before .before .before .before .before .down .ensures .2) (c .before .before .before .before .before .before .before .flatten-constraint .ensures .1 .0) (c .up .ensures .1), stays-inside _ _ _ _ _ _ _ _ _ (c .before .before .before .before .before .before .before .before .before .before .before .before .before .before .before .before .before .before .before .before .before .before .before .before .before .before .before .pre .1) _ _ _ (c .before .before .before .before .before .before .before .before .before .before .before .before .before .before .before .before .before .before .before .before .check-header .ensures) (c .before .before .before .before .before .before .before .before .before .before .before .before .before .before .before .before .before .before .header .given .1) (c .before .before .before .before .before .before .before .before .before .before .before .before .before .before .before .extend .ensures) _ (c .before .before .before .before .before .before .before .before .before .before .before .down .ensures .2) _ (c .before .before .before .before .before .before .before .flatten-constraint .ensures .1 .1)))
 
 abbrev flatten-members-Inv-loop : flatten-members-lts.InvT-loop
-flatten-members-Inv-loop s levels path enc range buf₀ text₀ moved₀ kept₀ left₀ enough buf text moved kept left =
-    Members (encoderIn s enc) range (onPath s (entries path)) levels s left₀ (moved₀ .at) (writing (moved₀ .progress) buf₀) left (moved .at) (writing (moved .progress) buf)
-    × (kept ≡ kept₀) × Stays kept₀ text₀ text × (length buf ≡ length buf₀)
+flatten-members-Inv-loop s levels path enc buf₀ text₀ lengths₀ moved₀ kept₀ left₀ enough buf text lengths moved kept left =
+    Members (encoderIn s enc) (onPath s (entries path)) levels s left₀ (moved₀ .at) (writing (moved₀ .progress) buf₀ lengths₀) left (moved .at) (writing (moved .progress) buf lengths)
+    × (kept ≡ kept₀) × Stays kept₀ text₀ text × (length buf ≡ length buf₀) × (length lengths ≡ length lengths₀)
 
 abbrev flatten-members-μ-loop : flatten-members-lts.MeasureT-loop
-flatten-members-μ-loop s levels path enc range buf₀ text₀ moved₀ kept₀ left₀ enough buf text moved kept left = left
+flatten-members-μ-loop s levels path enc buf₀ text₀ lengths₀ moved₀ kept₀ left₀ enough buf text lengths moved kept left = left
 
 flatten-members-loop-holds : (t : ℕ) → flatten-members-lts.Need-loop-holds (flatten-members-calls t) (flatten-members-at t) flatten-members.Post flatten-members-Inv-loop flatten-members-μ-loop
-flatten-members-loop-holds t c = (members-start _ _ _ _ _ _ _ _, refl, stays-same _ _, refl)
+flatten-members-loop-holds t c = (members-start _ _ _ _ _ _ _, refl, stays-same _ _, refl, refl)
 
 flatten-members-add-to : (t : ℕ) → flatten-members-lts.Need-add-to (flatten-members-calls t) (flatten-members-at t) flatten-members.Post flatten-members-Inv-loop flatten-members-μ-loop
-flatten-members-add-to t c = let h = kept-head-stands (c .before .before .before .before .before .before .before .before .before .before .before .before .args .levels) (c .before .before .before .before .before .before .before .before .before .before .before .before .args .s .now) (c .before .before .before .loop .moved .at) (c .before .before .before .before .is-enough .result) _ (c .before .is-kept-head .ensures) (c .if1 .taken) .1 in let l = c .before .before .before .before .before .before .before .before .before .before .before .before .pre .1 .short in omega arith
+flatten-members-add-to t c = let h = kept-head-stands (c .before .before .before .before .before .before .before .before .before .before .before .before .before .args .levels) (c .before .before .before .before .before .before .before .before .before .before .before .before .before .args .s .now) (c .before .before .before .loop .moved .at) (c .before .before .before .before .is-enough .result) _ (c .before .is-kept-head .ensures) (c .if1 .taken) .1 in let l = c .before .before .before .before .before .before .before .before .before .before .before .before .before .pre .1 .short in omega arith
 
 flatten-members-sub-flatten-kept-head : (t : ℕ) → flatten-members-lts.Need-sub-flatten-kept-head (flatten-members-calls t) (flatten-members-at t) flatten-members.Post flatten-members-Inv-loop flatten-members-μ-loop
-flatten-members-sub-flatten-kept-head t c = let h = kept-head-stands (c .before .before .before .before .before .before .before .before .before .before .before .before .before .args .levels) (c .before .before .before .before .before .before .before .before .before .before .before .before .before .args .s .now) (c .before .before .before .before .loop .moved .at) (c .before .before .before .before .before .is-enough .result) _ (c .before .before .is-kept-head .ensures) (c .before .if1 .taken) .0 in omega arith
+flatten-members-sub-flatten-kept-head t c = let h = kept-head-stands (c .before .before .before .before .before .before .before .before .before .before .before .before .before .before .args .levels) (c .before .before .before .before .before .before .before .before .before .before .before .before .before .before .args .s .now) (c .before .before .before .before .loop .moved .at) (c .before .before .before .before .before .is-enough .result) _ (c .before .before .is-kept-head .ensures) (c .before .if1 .taken) .0 in omega arith
 
 flatten-members-flatten-kept-head-requires : (t : ℕ) → flatten-members-lts.Need-flatten-kept-head-requires (flatten-members-calls t) (flatten-members-at t) flatten-members.Post flatten-members-Inv-loop flatten-members-μ-loop
-flatten-members-flatten-kept-head-requires t c κs = (c .before .before .before .before .before .before .before .before .before .before .before .before .before .before .before .pre .1 .chained, enough-same _ _ _ _ _ _ _ (c .before .before .before .before .before .before .before .is-enough .ensures) (kept-head-known (c .before .before .before .before .before .before .before .before .before .before .before .before .before .before .before .args .levels) (c .before .before .before .before .before .before .before .before .before .before .before .before .before .before .before .args .s .now) (c .before .before .before .before .before .before .loop .moved .at) (c .before .before .before .before .before .before .before .is-enough .result) _ (c .before .before .before .before .is-kept-head .ensures) (c .before .before .before .if1 .taken)) (c .before .before .before .before .before .before .loop .inv .2 .size) (c .before .before .before .before .before .before .loop .inv .3) (c .before .before .before .before .before .before .loop .inv .1))
+flatten-members-flatten-kept-head-requires t c κs = (c .before .before .before .before .before .before .before .before .before .before .before .before .before .before .before .before .before .pre .1 .chained, enough-same _ _ _ _ _ _ _ (c .before .before .before .before .before .before .before .before .is-enough .ensures) (kept-head-known (c .before .before .before .before .before .before .before .before .before .before .before .before .before .before .before .before .before .args .levels) (c .before .before .before .before .before .before .before .before .before .before .before .before .before .before .before .before .before .args .s .now) (c .before .before .before .before .before .before .before .loop .moved .at) (c .before .before .before .before .before .before .before .before .is-enough .result) _ (c .before .before .before .before .before .is-kept-head .ensures) (c .before .before .before .before .if1 .taken)) (c .before .before .before .before .before .before .before .loop .inv .2 .size) (c .before .before .before .before .before .before .before .loop .inv .3) (c .before .before .before .before .before .before .before .loop .inv .1))
 
 flatten-members-loop-again : (t : ℕ) → flatten-members-lts.Need-loop-again (flatten-members-calls t) (flatten-members-at t) flatten-members.Post flatten-members-Inv-loop flatten-members-μ-loop
-flatten-members-loop-again t c = (members-more _ _ _ _ _ _ _ _ _ _ _ _ _ (c .before .before .before .before .before .before .before .before .loop-test .taken) (c .before .before .before .before .before .before .before .before .before .loop .inv .0) (kept-head-puts (c .before .before .before .before .before .before .before .before .before .before .before .before .before .before .before .before .before .before .args .levels) (c .before .before .before .before .before .before .before .before .before .before .before .before .before .before .before .before .before .before .args .s .now) (c .before .before .before .before .before .before .before .before .before .loop .moved .at) (c .before .before .before .before .before .before .before .before .before .before .is-enough .result) _ (c .before .before .before .before .before .before .before .is-kept-head .ensures) (c .before .before .before .before .before .before .if1 .taken) _ _ _ _ _ _ _ _ _ _ _ _ refl (ready-stays _ _ _ _ _ _ (c .before .before .before .before .before .before .before .before .before .before .before .before .before .before .before .before .before .before .pre .1) _ _ (c .before .before .before .before .before .before .before .before .before .loop .inv .2) (c .before .before .before .before .before .before .before .before .before .loop .inv .1) .stands) (ready-stays _ _ _ _ _ _ (c .before .before .before .before .before .before .before .before .before .before .before .before .before .before .before .before .before .before .pre .1) _ _ (c .before .before .before .before .before .before .before .before .before .loop .inv .2) (c .before .before .before .before .before .before .before .before .before .loop .inv .1) .keeps) (c .before .before .before .before .before .to .ensures) (c .before .before .flatten-kept-head .ensures)), c .before .before .before .before .before .before .before .before .before .loop .inv .1, c .before .before .before .before .before .before .before .before .before .loop .inv .2, search needs)
+flatten-members-loop-again t c = (members-more _ _ _ _ _ _ _ _ _ _ _ _ (c .before .before .before .before .before .before .before .before .before .before .before .loop-test .taken) (c .before .before .before .before .before .before .before .before .before .before .before .before .loop .inv .0) (kept-head-puts (c .before .before .before .before .before .before .before .before .before .before .before .before .before .before .before .before .before .before .before .before .before .before .args .levels) (c .before .before .before .before .before .before .before .before .before .before .before .before .before .before .before .before .before .before .before .before .before .before .args .s .now) (c .before .before .before .before .before .before .before .before .before .before .before .before .loop .moved .at) (c .before .before .before .before .before .before .before .before .before .before .before .before .before .is-enough .result) _ (c .before .before .before .before .before .before .before .before .before .before .is-kept-head .ensures) (c .before .before .before .before .before .before .before .before .before .if1 .taken) _ _ _ _ _ _ _ _ _ _ _ _ refl (ready-stays _ _ _ _ _ _ (c .before .before .before .before .before .before .before .before .before .before .before .before .before .before .before .before .before .before .before .before .before .before .pre .1) _ _ (c .before .before .before .before .before .before .before .before .before .before .before .before .loop .inv .2) (c .before .before .before .before .before .before .before .before .before .before .before .before .loop .inv .1) .stands) (ready-stays _ _ _ _ _ _ (c .before .before .before .before .before .before .before .before .before .before .before .before .before .before .before .before .before .before .before .before .before .before .pre .1) _ _ (c .before .before .before .before .before .before .before .before .before .before .before .before .loop .inv .2) (c .before .before .before .before .before .before .before .before .before .before .before .before .loop .inv .1) .keeps) (c .before .before .before .before .before .before .before .before .to .ensures) (c .before .before .before .before .flatten-kept-head .ensures)), c .before .before .before .before .before .before .before .before .before .before .before .before .loop .inv .1, c .before .before .before .before .before .before .before .before .before .before .before .before .loop .inv .2, search needs, search needs)
 
 flatten-members-flatten-constraint-requires : (t : ℕ) → flatten-members-lts.Need-flatten-constraint-requires (flatten-members-calls t) (flatten-members-at t) flatten-members.Post flatten-members-Inv-loop flatten-members-μ-loop
-flatten-members-flatten-constraint-requires t c κs = let far = c .before .before .before .before .before .before .before .before .before .before .before .before .before .before .pre .0 in (omega arith, ready-stays _ _ _ _ _ _ (c .before .before .before .before .before .before .before .before .before .before .before .before .before .before .pre .1) _ _ (c .before .before .before .before .before .loop .inv .2) (c .before .before .before .before .before .loop .inv .1))
+flatten-members-flatten-constraint-requires t c κs = let far = c .before .before .before .before .before .before .before .before .before .before .before .before .before .before .before .before .pre .0 in (omega arith, ready-stays _ _ _ _ _ _ (c .before .before .before .before .before .before .before .before .before .before .before .before .before .before .before .before .pre .1) _ _ (c .before .before .before .before .before .before .loop .inv .2) (c .before .before .before .before .before .before .loop .inv .1))
 
 flatten-members-loop-again-2 : (t : ℕ) → flatten-members-lts.Need-loop-again-2 (flatten-members-calls t) (flatten-members-at t) flatten-members.Post flatten-members-Inv-loop flatten-members-μ-loop
-flatten-members-loop-again-2 t c = (members-more _ _ _ _ _ _ _ _ _ _ _ _ _ (c .before .before .before .before .before .before .before .before .before .before .before .loop-test .taken) (c .before .before .before .before .before .before .before .before .before .before .before .before .loop .inv .0) (c .before .before .before .before .before .before .flatten-constraint .ensures .0), c .before .before .before .before .before .before .flatten-constraint .ensures .1 .0 ∙ c .before .before .before .before .before .before .before .before .before .before .before .before .loop .inv .1, stays-then _ _ _ _ (c .before .before .before .before .before .before .before .before .before .before .before .before .loop .inv .2) (stays-kept _ _ _ _ (c .before .before .before .before .before .before .before .before .before .before .before .before .loop .inv .1) (c .before .before .before .before .before .before .flatten-constraint .ensures .1 .1)), search needs)
+flatten-members-loop-again-2 t c = (members-more _ _ _ _ _ _ _ _ _ _ _ _ (c .before .before .before .before .before .before .before .before .before .before .before .before .before .before .loop-test .taken) (c .before .before .before .before .before .before .before .before .before .before .before .before .before .before .before .loop .inv .0) (c .before .before .before .before .before .before .before .before .flatten-constraint .ensures .0), c .before .before .before .before .before .before .before .before .flatten-constraint .ensures .1 .0 ∙ c .before .before .before .before .before .before .before .before .before .before .before .before .before .before .before .loop .inv .1, stays-then _ _ _ _ (c .before .before .before .before .before .before .before .before .before .before .before .before .before .before .before .loop .inv .2) (stays-kept _ _ _ _ (c .before .before .before .before .before .before .before .before .before .before .before .before .before .before .before .loop .inv .1) (c .before .before .before .before .before .before .before .before .flatten-constraint .ensures .1 .1)), search needs, search needs)
 
 flatten-members-same-length : (t : ℕ) → flatten-members-lts.Need-same-length (flatten-members-calls t) (flatten-members-at t) flatten-members.Post flatten-members-Inv-loop flatten-members-μ-loop
 flatten-members-same-length t c = c .before .loop .inv .3
@@ -190,8 +193,11 @@ flatten-members-same-length t c = c .before .loop .inv .3
 flatten-members-same-length-2 : (t : ℕ) → flatten-members-lts.Need-same-length-2 (flatten-members-calls t) (flatten-members-at t) flatten-members.Post flatten-members-Inv-loop flatten-members-μ-loop
 flatten-members-same-length-2 t c = c .before .loop .inv .2 .size
 
+flatten-members-same-length-3 : (t : ℕ) → flatten-members-lts.Need-same-length-3 (flatten-members-calls t) (flatten-members-at t) flatten-members.Post flatten-members-Inv-loop flatten-members-μ-loop
+flatten-members-same-length-3 t c = c .before .loop .inv .4
+
 flatten-members-returns : (t : ℕ) → flatten-members-lts.Need-returns (flatten-members-calls t) (flatten-members-at t) flatten-members.Post flatten-members-Inv-loop flatten-members-μ-loop
-flatten-members-returns t c = (members-end _ _ _ _ _ _ _ _ _ _ _ (c .loop-test .left) (c .before .loop .inv .0), (c .before .loop .inv .1, c .before .loop .inv .2))
+flatten-members-returns t c = (members-end _ _ _ _ _ _ _ _ _ _ (c .loop-test .left) (c .before .loop .inv .0), (c .before .loop .inv .1, c .before .loop .inv .2))
 
 pub +flatten-constraint+flatten-for-all+flatten-members-spec : {M : Type 1} → statement M
 +flatten-constraint+flatten-for-all+flatten-members-spec =
@@ -217,10 +223,13 @@ pub +flatten-constraint+flatten-for-all+flatten-members-spec : {M : Type 1} → 
     (λ c. search needs)
     (λ c. search needs)
     (λ c. search needs)
+    (λ c. search needs)
     (flatten-constraint-returns-2 t)
     (λ c. search needs)
     (λ c. search needs)
+    (λ c. search needs)
     (flatten-constraint-returns-3 t)
+    (λ c. search needs)
     (λ c. search needs)
     (λ c. search needs)
     (flatten-constraint-returns-4 t)
@@ -237,6 +246,7 @@ pub +flatten-constraint+flatten-for-all+flatten-members-spec : {M : Type 1} → 
     (flatten-for-all-flatten-constraint-requires t)
     (flatten-for-all-up-requires t)
     (λ c. search needs)
+    (flatten-for-all-same-length-2 t)
     (λ c. search needs)
     (flatten-for-all-returns-2 t))
     λ t. flatten-members-lts.spec (flatten-members-calls t) (flatten-members-at t)
@@ -258,4 +268,5 @@ pub +flatten-constraint+flatten-for-all+flatten-members-spec : {M : Type 1} → 
     (flatten-members-loop-again-2 t)
     (flatten-members-same-length t)
     (flatten-members-same-length-2 t)
+    (flatten-members-same-length-3 t)
     (flatten-members-returns t)

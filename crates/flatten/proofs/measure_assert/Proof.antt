@@ -10,8 +10,12 @@ measure-assert-requires c κs = search needs
 placed-requires : tie.Need-placed-requires
 placed-requires c κs = search needs
 
+same-length : tie.Need-same-length
+same-length c = search needs
+
 returns : tie.Need-returns
-returns c = measured-placed _ _ _ _ _ _ _ _ (c .placed .ensures) (c .before .before .measure-assert .ensures)
+returns c = measured-placed _ _ _ _ _ _ _ _ _ _ (c .before .before .placed .ensures) (c .before .before .before .before .before .measure-assert .ensures)
 
 pub measure-assert-spec : {M : Type 1} → statement M
-measure-assert-spec = tie.close (tie.spec measure-assert-requires placed-requires returns)
+measure-assert-spec =
+    tie.close (tie.spec measure-assert-requires placed-requires same-length returns)

@@ -29,8 +29,11 @@ placed-requires c κs = search needs
 same-length : tie.Need-same-length
 same-length c = search needs
 
+same-length-2 : tie.Need-same-length-2
+same-length-2 c = search needs
+
 returns : tie.Need-returns
-returns c = path-placed (c .before .before .before .before .before .before .before .before .before .before .before .before .args .s .now) (c .before .before .before .before .before .before .before .before .before .before .before .before .args .enc .now) _ _ _ _ _ _ _ _ _ (c .before .before .before .before .before .before .before .least .ensures) (c .before .before .before .before .before .new .ensures) (let g = c .before .before .before .before .before .before .before .before .before .before .before .before .good in omega arith) (c .placed .ensures) _ (c .before .before .before .before .write-long-assert .ensures)
+returns c = path-placed (c .before .before .before .before .before .before .before .before .before .before .before .before .before .before .before .before .args .s .now) (c .before .before .before .before .before .before .before .before .before .before .before .before .before .before .before .before .args .enc .now) _ _ _ _ _ _ _ _ _ _ _ (c .before .before .before .before .before .before .before .before .before .before .least .ensures) (c .before .before .before .before .before .before .before .before .new .ensures) (let g = c .before .before .before .before .before .before .before .before .before .before .before .before .before .before .before .before .good in omega arith) (c .before .before .placed .ensures) _ (c .before .before .before .before .before .before .before .write-long-assert .ensures)
 
 pub put-long-assert-spec : {M : Type 1} → statement M
 put-long-assert-spec =
@@ -44,4 +47,5 @@ put-long-assert-spec =
     write-long-assert-requires
     placed-requires
     same-length
+    same-length-2
     returns)

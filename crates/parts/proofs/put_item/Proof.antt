@@ -8,8 +8,8 @@ use borrow.Author.Needs.{needs}
 use Rattle.parts.proofs.put_item.Statement.{statement}
 use Rattle.parts.proofs.put_item.Tie as tie
 
-has-requires : tie.Need-has-requires
-has-requires c κs = search needs
+has-next-requires : tie.Need-has-next-requires
+has-next-requires c κs = search needs
 
 least-requires : tie.Need-least-requires
 least-requires c κs = search needs
@@ -35,8 +35,11 @@ placed-requires c κs = search needs
 same-length : tie.Need-same-length
 same-length c = search needs
 
+same-length-2 : tie.Need-same-length-2
+same-length-2 c = search needs
+
 returns : tie.Need-returns
-returns c = part-in itself _ _ _ _ _ _ _ _ _ _ (sym (c .before .before .before .before .before .before .before .before .before .has .ensures) ∙ c .before .before .before .before .before .before .before .before .if1 .taken) (c .before .before .before .before .before .before .before .least .ensures) (c .before .before .before .before .before .new .ensures) (omega arith) (c .before .before .before .before .write-item .ensures) (c .placed .ensures)
+returns c = part-in itself _ _ _ _ _ _ _ _ _ _ _ (sym (c .before .before .before .before .before .before .before .before .before .before .before .before .has-next .ensures) ∙ c .before .before .before .before .before .before .before .before .before .before .before .if1 .taken) (c .before .before .before .before .before .before .before .before .before .before .least .ensures) (c .before .before .before .before .before .before .before .before .new .ensures) (let g = c .before .before .before .before .before .before .before .before .before .before .before .before .before .before .before .before .before .good in omega arith) (c .before .before .before .before .before .before .before .write-item .ensures) (c .before .before .placed .ensures)
 
 check-item-requires : tie.Need-check-item-requires
 check-item-requires c κs = search needs
@@ -48,19 +51,19 @@ enum-told : tie.Need-enum-told
 enum-told c = search needs
 
 returns-2 : tie.Need-returns-2
-returns-2 c = item-refused _ _ _ _ _ _ (c .before .before .check-item .ensures) _ _ _ _ (c .enum-told .given .1)
+returns-2 c = item-refused _ _ _ _ _ (c .before .before .check-item .ensures) _ _ _ _ (c .enum-told .given .1)
 
 passed-requires : tie.Need-passed-requires
 passed-requires c κs = search needs
 
 returns-3 : tie.Need-returns-3
-returns-3 c = item-out _ _ _ _ _ _ (c .before .before .before .before .check-item .ensures) _ _ _ _ _ (sym (c .before .before .before .before .before .before .has .ensures) ∙ c .before .before .before .before .before .if1 .left) (c .before .before .walked .given .1) (c .passed .ensures)
+returns-3 c = item-out _ _ _ _ _ (c .before .before .before .before .check-item .ensures) _ _ _ _ _ _ (sym (c .before .before .before .before .before .before .has-next .ensures) ∙ c .before .before .before .before .before .if1 .left) (c .before .before .walked .given .1) (c .passed .ensures)
 
 pub put-item-spec : {M : Type 1} → statement M
 put-item-spec =
     tie.close
     (tie.spec
-    has-requires
+    has-next-requires
     least-requires
     sub-write-item
     part-write-item-start
@@ -69,6 +72,7 @@ put-item-spec =
     write-item-requires
     placed-requires
     same-length
+    same-length-2
     returns
     check-item-requires
     enum-known-walked

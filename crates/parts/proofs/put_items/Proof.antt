@@ -12,14 +12,24 @@ end-of-requires : tie.Need-end-of-requires
 end-of-requires c κs = search needs
 
 put-section-requires : tie.Need-put-section-requires
-put-section-requires c κs = (c .before .before .before .before .before .before .pre .1, ends-inside _ _ (c .before .before .before .before .before .before .args .section) _ (c .before .before .before .before .before .before .pre .0) (c .before .end-of .ensures))
+put-section-requires c κs = (c .before .before .before .before .before .before .before .before .pre .1, ends-inside _ _ (c .before .before .before .before .before .before .before .before .args .section) _ (c .before .before .before .before .before .before .before .before .pre .0) (c .before .before .end-of .ensures))
 
 same-length : tie.Need-same-length
 same-length c = search needs
 
+same-length-2 : tie.Need-same-length-2
+same-length-2 c = search needs
+
 returns : tie.Need-returns
-returns c = section-put _ _ (c .before .before .before .before .before .before .before .before .before .args .b) (c .before .before .before .before .before .before .before .before .before .args .section) _ _ _ _ _ (c .before .before .before .before .before .start-of .ensures) (c .before .before .before .before .end-of .ensures) (c .before .before .put-section .ensures)
+returns c = section-put _ _ (c .before .before .before .before .before .before .before .before .before .before .before .before .before .args .b) (c .before .before .before .before .before .before .before .before .before .before .before .before .before .args .section) _ _ _ _ (c .before .before .before .before .before .before .before .before .start-of .ensures) (c .before .before .before .before .before .before .before .end-of .ensures) (c .before .before .before .before .put-section .ensures)
 
 pub put-items-spec : {M : Type 1} → statement M
 put-items-spec =
-    tie.close (tie.spec start-of-requires end-of-requires put-section-requires same-length returns)
+    tie.close
+    (tie.spec
+    start-of-requires
+    end-of-requires
+    put-section-requires
+    same-length
+    same-length-2
+    returns)

@@ -9,8 +9,8 @@ use borrow.Author.Needs.{needs}
 use Rattle.parts.proofs.put_opening.Statement.{statement}
 use Rattle.parts.proofs.put_opening.Tie as tie
 
-has-requires : tie.Need-has-requires
-has-requires c κs = search needs
+has-next-requires : tie.Need-has-next-requires
+has-next-requires c κs = search needs
 
 least-requires : tie.Need-least-requires
 least-requires c κs = search needs
@@ -36,20 +36,23 @@ placed-requires c κs = search needs
 same-length : tie.Need-same-length
 same-length c = search needs
 
+same-length-2 : tie.Need-same-length-2
+same-length-2 c = search needs
+
 returns : tie.Need-returns
-returns c = all-of openingPart _ _ _ _ _ (part-in opening _ _ _ _ _ _ _ _ _ _ (sym (c .before .before .before .before .before .before .before .before .before .has .ensures) ∙ c .before .before .before .before .before .before .before .before .if1 .taken) (c .before .before .before .before .before .before .before .least .ensures) (c .before .before .before .before .before .new .ensures) (omega arith) (c .before .before .before .before .write-opening .ensures) (c .placed .ensures))
+returns c = all-of openingPart _ _ _ _ (part-in opening _ _ _ _ _ _ _ _ _ _ _ (sym (c .before .before .before .before .before .before .before .before .before .before .before .before .has-next .ensures) ∙ c .before .before .before .before .before .before .before .before .before .before .before .if1 .taken) (c .before .before .before .before .before .before .before .before .before .before .least .ensures) (c .before .before .before .before .before .before .before .before .new .ensures) (omega arith) (c .before .before .before .before .before .before .before .write-opening .ensures) (c .before .before .placed .ensures))
 
 passed-requires : tie.Need-passed-requires
 passed-requires c κs = search needs
 
 returns-2 : tie.Need-returns-2
-returns-2 c = part-out opening _ _ _ _ _ (sym (c .before .before .has .ensures) ∙ c .before .if1 .left) (c .passed .ensures)
+returns-2 c = part-out opening _ _ _ _ _ (sym (c .before .before .has-next .ensures) ∙ c .before .if1 .left) (c .passed .ensures)
 
 pub put-opening-spec : {M : Type 1} → statement M
 put-opening-spec =
     tie.close
     (tie.spec
-    has-requires
+    has-next-requires
     least-requires
     sub-write-opening
     part-write-opening-start
@@ -58,6 +61,7 @@ put-opening-spec =
     write-opening-requires
     placed-requires
     same-length
+    same-length-2
     returns
     passed-requires
     returns-2)

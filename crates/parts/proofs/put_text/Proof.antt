@@ -6,8 +6,8 @@ use borrow.Author.Needs.{needs}
 use Rattle.parts.proofs.put_text.Statement.{statement}
 use Rattle.parts.proofs.put_text.Tie as tie
 
-has-requires : tie.Need-has-requires
-has-requires c κs = search needs
+has-next-requires : tie.Need-has-next-requires
+has-next-requires c κs = search needs
 
 least-requires : tie.Need-least-requires
 least-requires c κs = search needs
@@ -33,20 +33,23 @@ placed-requires c κs = search needs
 same-length : tie.Need-same-length
 same-length c = search needs
 
+same-length-2 : tie.Need-same-length-2
+same-length-2 c = search needs
+
 returns : tie.Need-returns
-returns c = put-in _ _ _ _ _ _ _ _ _ (sym (c .before .before .before .before .before .before .before .before .has .ensures) ∙ c .before .before .before .before .before .before .before .if1 .taken) (c .before .before .before .before .before .before .least .ensures) (c .before .before .before .before .before .new .ensures) (omega arith) (c .before .before .before .bytes .ensures) (c .placed .ensures)
+returns c = put-in _ _ _ _ _ _ _ _ _ _ (sym (c .before .before .before .before .before .before .before .before .before .before .before .has-next .ensures) ∙ c .before .before .before .before .before .before .before .before .before .before .if1 .taken) (c .before .before .before .before .before .before .before .before .before .least .ensures) (c .before .before .before .before .before .before .before .before .new .ensures) (omega arith) (c .before .before .before .before .before .before .bytes .ensures) (c .before .before .placed .ensures)
 
 passed-requires : tie.Need-passed-requires
 passed-requires c κs = search needs
 
 returns-2 : tie.Need-returns-2
-returns-2 c = put-out _ _ _ _ _ (sym (c .before .before .has .ensures) ∙ c .before .if1 .left) (c .passed .ensures)
+returns-2 c = put-out _ _ _ _ _ (sym (c .before .before .has-next .ensures) ∙ c .before .if1 .left) (c .passed .ensures)
 
 pub put-text-spec : {M : Type 1} → statement M
 put-text-spec =
     tie.close
     (tie.spec
-    has-requires
+    has-next-requires
     least-requires
     new-requires
     sub-bytes
@@ -55,6 +58,7 @@ put-text-spec =
     bytes-requires
     placed-requires
     same-length
+    same-length-2
     returns
     passed-requires
     returns-2)

@@ -14,7 +14,7 @@ set-edition-requires : tie.Need-set-edition-requires
 set-edition-requires c κs = search needs
 
 put-task-requires : tie.Need-put-task-requires
-put-task-requires c κs = (accepted _ _ _ _ _ (c .before .before .before .before .before .before .before .before .before .before .before .inspect .ensures .0) (c .before .before .before .before .before .before .before .inspected .given .1), edition-names _ _ (c .before .before .before .before .before .before .before .before .before .before .before .inspect .ensures .1) (c .before .before .before .before .before .before .before .before .before .before .before .before .before .before .before .before .args .edition) _ (c .before .before .before .before .set-edition .ensures))
+put-task-requires c κs = (accepted _ _ _ _ _ (c .before .before .before .before .before .before .before .before .before .before .before .before .inspect .ensures .0) (c .before .before .before .before .before .before .before .before .inspected .given .1), edition-names _ _ (c .before .before .before .before .before .before .before .before .before .before .before .before .inspect .ensures .1) (c .before .before .before .before .before .before .before .before .before .before .before .before .before .before .before .before .before .before .args .edition) _ (c .before .before .before .before .before .set-edition .ensures))
 
 enum-known-inspected-2 : tie.Need-enum-known-inspected-2
 enum-known-inspected-2 c = search needs
@@ -25,14 +25,17 @@ same-length c = search needs
 same-length-2 : tie.Need-same-length-2
 same-length-2 c = search needs
 
-returns : tie.Need-returns
-returns c = put-given _ _ _ _ (c .before .before .before .before .before .before .before .before .before .before .before .before .before .before .inspect .ensures .0) _ _ _ _ _ _ _ (c .before .before .before .before .before .before .before .before .before .before .inspected .given .1) (edition-is _ _ (c .before .before .before .before .before .before .before .before .before .before .before .before .before .before .inspect .ensures .1) _ _ (c .before .before .before .before .before .before .before .set-edition .ensures)) (c .before .before .put-task .ensures)
-
 same-length-3 : tie.Need-same-length-3
 same-length-3 c = search needs
 
+returns : tie.Need-returns
+returns c = put-given _ _ _ _ (c .before .before .before .before .before .before .before .before .before .before .before .before .before .before .before .before .before .inspect .ensures .0) _ _ _ _ _ _ _ _ _ (c .before .before .before .before .before .before .before .before .before .before .before .before .before .inspected .given .1) (edition-is _ _ (c .before .before .before .before .before .before .before .before .before .before .before .before .before .before .before .before .before .inspect .ensures .1) _ _ (c .before .before .before .before .before .before .before .before .before .before .set-edition .ensures)) (c .before .before .before .before .put-task .ensures)
+
+same-length-4 : tie.Need-same-length-4
+same-length-4 c = search needs
+
 returns-2 : tie.Need-returns-2
-returns-2 c = put-refused _ _ _ _ (c .before .before .before .before .before .inspect .ensures .0) _ _ (c .before .inspected2 .given .1)
+returns-2 c = put-refused _ _ _ _ (c .before .before .before .before .before .inspect .ensures .0) _ _ _ (c .before .inspected2 .given .1)
 
 pub put-with-spec : {M : Type 1} → statement M
 put-with-spec =
@@ -45,6 +48,7 @@ put-with-spec =
     enum-known-inspected-2
     same-length
     same-length-2
-    returns
     same-length-3
+    returns
+    same-length-4
     returns-2)

@@ -9,7 +9,7 @@ sum-requires : tie.Need-sum-requires
 sum-requires c κs = search needs
 
 returns : tie.Need-returns
-returns c = same-progress (c .sum .ensures) refl refl
+returns c = same-progress refl (c .sum .ensures) refl refl
 
 pub passed-spec : {M : Type 1} → statement M
 passed-spec = tie.close (tie.spec sum-requires returns)
