@@ -86,18 +86,18 @@ fn print_turn(buf: &[u8], len: usize, done: usize) -> usize
     output::sum(done, len)
 }
 
-// 1,048,576 zeros: the buffer of a turn.
-fn turn_buffer() -> [u8; 1048576]
-    ensures { λ r. ⌜ 1048576 ≡ length r ⌝ }
+// 196,608 zeros: the buffer of a turn.
+fn turn_buffer() -> [u8; 196608]
+    ensures { λ r. ⌜ 196608 ≡ length r ⌝ }
 {
-    [0; 1048576]
+    [0; 196608]
 }
 
-// 65,536 zeros: the table of the lengths of a turn's parts.
-fn turn_lengths() -> [u32; 65536]
-    ensures { λ r. ⌜ 65536 ≡ length r ⌝ }
+// 6,144 zeros: the table of the lengths of a turn's parts.
+fn turn_lengths() -> [u32; 6144]
+    ensures { λ r. ⌜ 6144 ≡ length r ⌝ }
 {
-    [0; 65536]
+    [0; 6144]
 }
 
 // Writes out n parts by turns. The buffer is larger than the longest part may be, so that there are fewer turns: each walks the file anew.

@@ -11,7 +11,7 @@ use Rattle.console.proofs.print_turns.Statement.{statement}
 use Rattle.console.proofs.print_turns.Tie as tie
 
 abbrev Inv-loop : tie.InvT-loop
-Inv-loop file b enc n buffer₀ lengths₀ next₀ done₀ buffer lengths next done = Going file (editionIn enc) next done × (1048576 ≡ length buffer) × (65536 ≡ length lengths)
+Inv-loop file b enc n buffer₀ lengths₀ next₀ done₀ buffer lengths next done = Going file (editionIn enc) next done × (196608 ≡ length buffer) × (6144 ≡ length lengths)
 
 abbrev μ-loop : tie.MeasureT-loop
 μ-loop file b enc n buffer₀ lengths₀ next₀ done₀ buffer lengths next done = n - next

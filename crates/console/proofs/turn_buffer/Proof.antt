@@ -6,7 +6,7 @@ use Rattle.console.proofs.turn_buffer.Statement.{statement}
 use Rattle.console.proofs.turn_buffer.Tie as tie
 
 returns : tie.Need-returns
-returns c = sym (length-replicate {A = ℕ} 1048576 0)
+returns c = sym (length-replicate {A = ℕ} 196608 0)
 
 pub turn-buffer-spec : {M : Type 1} → statement M
 turn-buffer-spec = tie.close (tie.spec returns)
