@@ -170,8 +170,8 @@ pub struct Parts<'f> {
 /// The parts of the task's script in order, written by runs of `at_a_time` parts (of one, if it is 0); or survey's refusal. Joined they are the
 /// script.
 ///
-/// Each run costs the file and what it writes, so with P parts the whole costs the file P / `at_a_time` times. The iterator holds the text of one run,
-/// never more than the script.
+/// Each run costs the file and what it writes, so with P parts the whole costs the file P / `at_a_time` times: a few thousand parts at a time are a fair
+/// choice. The iterator holds the text of one run, never more than the script.
 ///
 /// A driver that streams a script to a solver:
 ///
@@ -182,7 +182,7 @@ pub struct Parts<'f> {
 /// # fn main() -> Result<(), Box<dyn std::error::Error>> {
 /// let task = std::fs::read("../../crates/hornscript/stdin")?;
 /// let mut solver = Vec::new(); // or the standard input of a solver
-/// for part in jiggerreef::parts(&task, Edition::Z3, 256)? {
+/// for part in jiggerreef::parts(&task, Edition::Z3, 4096)? {
 ///     solver.write_all(&part)?;
 /// }
 /// assert!(solver.ends_with(b"\n(check-sat)\n"));

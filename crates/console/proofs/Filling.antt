@@ -212,9 +212,11 @@ module _ (file : List ℕ) (ed : Edition) where
           omega arith
 
       -- and it was written out
-      pub going-more : (done' : ℕ) → done' ≡ up done (r .len) → Going file ed (r .next) done'
+      pub going-more : (b : Bounds) → Accepted file b → (done' : ℕ) → done' ≡ up done (length (take (r .len) after)) → Going file ed (r .next) done'
       unfolding Going Fills
-      going-more done' e t end held =
+      going-more b a done' e t end held =
+          let i = turn-inside b a in
+          let j = length-take (r .len) after in
           let ps = partsOf (namesOf ed) t in
           let us = turnOf (length before) places (drop next ps) in
           let w = f t end held in
@@ -231,7 +233,7 @@ module _ (file : List ℕ) (ed : Edition) where
           let o : length us + length (drop (length us) (drop next ps)) ≡ length (drop next ps) = sym (length-append us (drop (length us) (drop next ps))) ∙ ap (λ (vs : List (List ℕ)). length vs) c in
           let p = length-drop next ps in
           let q : length (join (take (next + length us) ps)) ≤ length (join ps) = join-take (next + length us) ps in
-          let z : up done (r .len) ≡ length (join (take (next + length us) ps)) = omega arith in
+          let z : up done (length (take (r .len) after)) ≡ length (join (take (next + length us) ps)) = omega arith in
           (omega arith, e ∙ z ∙ ap (λ (i : ℕ). length (join (take i ps))) (sym n))
 
       -- there are fewer parts left

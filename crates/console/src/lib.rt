@@ -77,13 +77,12 @@ fn fill(
     Turn { next, len: put.len }
 }
 
-// Writes out what a turn put into the buffer. Answers how many bytes were written out so far.
-fn print_turn(buf: &[u8], len: usize, done: usize) -> usize
-    requires { ⌜ len ≤ length (now buf) ⌝ }
-    ensures { λ r. ⌜ r ≡ up done len ⌝ }
+// Writes out the text of a turn. Answers how many bytes were written out so far.
+fn print_turn(text: &[u8], done: usize) -> usize
+    ensures { λ r. ⌜ r ≡ up done (length (now (text .entry))) ⌝ }
 {
-    io::write_all(STDOUT_FILENO, &buf[..len]);
-    output::sum(done, len)
+    io::write_all(STDOUT_FILENO, text);
+    output::sum(done, text.len())
 }
 
 // 196,608 zeros: the buffer of a turn.
@@ -112,7 +111,8 @@ fn print_turns(file: &[u8], b: Bounds, enc: &[u16], n: usize) -> usize
     let mut done: usize = 0;
     while next < n {
         let turn = fill(file, b, enc, next, &mut buffer, &mut lengths);
-        done = print_turn(&buffer, turn.len, done);
+        let len = turn.len;
+        done = print_turn(&buffer[..len], done);
         next = turn.next;
     }
     done

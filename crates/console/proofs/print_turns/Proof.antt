@@ -2,7 +2,7 @@
 use mathlib.Core.Path.{_≡_}
 use Prim.Native.Nat.{_-_}
 use native.Mathlib.Omega.{arith}
-use lib.ListN.{length}
+use lib.ListN.{length, length-take}
 use Rattle.assertion.proofs.Short.{are-bytes}
 use Rattle.smt_sort.specs.Section.{editionIn}
 use Rattle.console.proofs.Filling.{Going, going-start, going-begun, turn-inside, going-more, going-less, going-end}
@@ -34,17 +34,20 @@ slice-aggregate-fill-2 c = search needs
 fill-requires : tie.Need-fill-requires Inv-loop μ-loop
 fill-requires c κs = (c .before .before .before .before .before .before .before .before .pre .0, going-begun _ _ _ _ (c .before .before .before .loop .inv .0))
 
+array-share-prefix-buffer : tie.Need-array-share-prefix-buffer Inv-loop μ-loop
+array-share-prefix-buffer c = turn-inside _ _ _ _ (c .before .before .before .before .before .before .loop .inv .0) (are-bytes (c .before .before .before .before .before .before .before .before .before .before .before .args .file .now) (c .before .before .before .before .before .before .before .before .before .before .shared-slice-known .given)) _ _ _ _ (c .before .before .fill .ensures) _ (c .before .before .before .before .before .before .before .before .before .before .before .pre .0 .0)
+
 slice-aggregate-print-turn : tie.Need-slice-aggregate-print-turn Inv-loop μ-loop
-slice-aggregate-print-turn c = search needs
+slice-aggregate-print-turn c = let h = turn-inside _ _ _ _ (c .before .before .before .before .before .before .before .loop .inv .0) (are-bytes (c .before .before .before .before .before .before .before .before .before .before .before .before .args .file .now) (c .before .before .before .before .before .before .before .before .before .before .before .shared-slice-known .given)) _ _ _ _ (c .before .before .before .fill .ensures) _ (c .before .before .before .before .before .before .before .before .before .before .before .before .pre .0 .0) in simp length-take (omega arith)
 
 print-turn-requires : tie.Need-print-turn-requires Inv-loop μ-loop
-print-turn-requires c κs = turn-inside _ _ _ _ (c .before .before .before .before .before .before .before .loop .inv .0) (are-bytes (c .before .before .before .before .before .before .before .before .before .before .before .before .args .file .now) (c .before .before .before .before .before .before .before .before .before .before .before .shared-slice-known .given)) _ _ _ _ (c .before .before .before .fill .ensures) _ (c .before .before .before .before .before .before .before .before .before .before .before .before .pre .0 .0)
+print-turn-requires c κs = search needs
 
 loop-less : tie.Need-loop-less Inv-loop μ-loop
 loop-less c = going-less _ _ _ _ (c .before .before .before .before .before .before .before .before .loop .inv .0) (are-bytes (c .before .before .before .before .before .before .before .before .before .before .before .before .before .args .file .now) (c .before .before .before .before .before .before .before .before .before .before .before .before .shared-slice-known .given)) _ _ _ _ (c .before .before .before .before .fill .ensures) _ (c .before .before .before .before .before .before .before .before .before .before .before .before .before .pre .0 .0) _ (c .before .before .before .before .before .before .before .before .before .before .before .before .before .pre .1) (c .before .before .before .before .before .before .before .loop-test .taken) (let h = c .before .before .before .before .before .before .before .before .loop .inv .2 in omega arith) (let h = c .before .before .before .before .before .before .before .before .loop .inv .1 in omega arith)
 
 loop-again : tie.Need-loop-again Inv-loop μ-loop
-loop-again c = (going-more _ _ _ _ (c .before .before .before .before .before .before .before .before .loop .inv .0) (are-bytes (c .before .before .before .before .before .before .before .before .before .before .before .before .before .args .file .now) (c .before .before .before .before .before .before .before .before .before .before .before .before .shared-slice-known .given)) _ _ _ _ (c .before .before .before .before .fill .ensures) _ (c .print-turn .ensures), search needs, search needs)
+loop-again c = (going-more _ _ _ _ (c .before .before .before .before .before .before .before .before .loop .inv .0) (are-bytes (c .before .before .before .before .before .before .before .before .before .before .before .before .before .args .file .now) (c .before .before .before .before .before .before .before .before .before .before .before .before .shared-slice-known .given)) _ _ _ _ (c .before .before .before .before .fill .ensures) _ (c .before .before .before .before .before .before .before .before .before .before .before .before .before .pre .0 .0) _ (c .print-turn .ensures), search needs, search needs)
 
 returns : tie.Need-returns Inv-loop μ-loop
 returns c = going-end _ _ _ _ (c .before .loop .inv .0) _ (c .before .before .before .before .before .before .pre .1) (c .loop-test .left)
@@ -61,6 +64,7 @@ print-turns-spec =
     slice-aggregate-fill
     slice-aggregate-fill-2
     fill-requires
+    array-share-prefix-buffer
     slice-aggregate-print-turn
     print-turn-requires
     loop-less
