@@ -7,7 +7,6 @@ use libc::STDOUT_FILENO;
 use smt_text::Edition;
 use trailer::Bounds;
 ghost use mathlib.Core.Path.{_≡_};
-ghost use Prim.Native.Nat.{_≤_};
 ghost use lib.ListN.{length};
 ghost use Rattle.inspect.specs.Inspect.{Names};
 ghost use Rattle.task.specs.Task.{taskOf};
