@@ -4,9 +4,10 @@ use oracle::chance::{Chance, SEED};
 use oracle::draft::{Draft, Plan, Spot};
 use oracle::faults::any_kind;
 use oracle::limits::nested;
-use oracle::task::{accepted, is_symbol, LONGEST_FILE};
+use oracle::strings::{in_exprs, in_pred};
+use oracle::task::{accepted, is_symbol, Constraint, Expr, Task, LONGEST_FILE};
 use oracle::words::{bytes, packed, USUAL};
-use std::{collections::BTreeSet, iter::repeat_with};
+use std::{collections::BTreeSet, iter::repeat_with, slice::from_ref};
 
 /// The quarters of a case's whole size.
 pub const WHOLE: usize = 4;
@@ -15,7 +16,7 @@ pub const WHOLE: usize = 4;
 /// ends so, and else in that of Z3.
 pub type Case = (&'static str, bool, fn(usize) -> Vec<Vec<u8>>);
 
-pub const CASES: [Case; 23] = [
+pub const CASES: [Case; 24] = [
     ("deep", true, |quarters| vec![deep(quarters)]),
     ("deep-guards", true, |quarters| vec![deep_guards(quarters)]),
     ("deep-names", true, |quarters| vec![deep_names(quarters)]),
@@ -38,6 +39,7 @@ pub const CASES: [Case; 23] = [
     ("strings", false, |quarters| vec![strings(quarters, |chance| 35 + chance.below(92) as u8)]),
     ("quotes", false, |quarters| vec![strings(quarters, |_| b'"')]),
     ("generated", false, generated),
+    ("generated-flux", false, generated_flux),
     ("small", false, |_| vec![include_bytes!("../../crates/hornscript/stdin").to_vec()]),
 ];
 
@@ -241,8 +243,32 @@ fn strings(quarters: usize, byte: fn(&mut Chance) -> u8) -> Vec<u8> {
 }
 
 /// Accepted files of all the kinds that the rendering is compared on.
-fn generated(quarters: usize) -> Vec<Vec<u8>> {
-    let mut chance = Chance::new(SEED);
+fn generated(quarters: usize) -> Vec<Vec<u8>> { by_chance(quarters, Chance::new(SEED), |_| true) }
+
+/// The same with a name or a theory function as the head of every application, as Flux writes them. Drafts are made with such heads only, and
+/// the files left out are those that were damaged into others: to leave out all of `generated` that have others would keep the smaller ones.
+fn generated_flux(quarters: usize) -> Vec<Vec<u8>> { by_chance(quarters, Chance::with_plain_heads(SEED), has_plain_heads) }
+
+/// Files of all kinds whose task is accepted and fits.
+fn by_chance(quarters: usize, mut chance: Chance, fits: fn(&Task) -> bool) -> Vec<Vec<u8>> {
     let files = repeat_with(|| any_kind(&mut chance).2.case(&mut chance).file);
-    files.filter(|file| accepted(file).is_ok()).take(share(GENERATED, quarters)).collect()
+    files.filter(|file| accepted(file).is_ok_and(|task| fits(&task))).take(share(GENERATED, quarters)).collect()
+}
+
+/// Whether the head of every application is a name or a theory function.
+fn has_plain_heads(task: &Task) -> bool {
+    let (mut plain, mut constraints) = (true, vec![&task.constraint]);
+    let mut visit = |expr: &Expr| if let Expr::App(head, ..) = expr { plain &= matches!(**head, Expr::Var(_) | Expr::ThyFunc(..)) };
+    task.functions.iter().filter_map(|function| function.body.as_ref()).for_each(|body| in_exprs(from_ref(&body.expr), &mut visit));
+    while let Some(constraint) = constraints.pop() {
+        match constraint {
+            Constraint::Pred(head) => in_pred(head, &mut visit),
+            Constraint::Conj(members) => constraints.extend(members),
+            Constraint::ForAll(_, preds, body) => {
+                preds.iter().for_each(|pred| in_pred(pred, &mut visit));
+                constraints.push(body);
+            }
+        }
+    }
+    plain
 }

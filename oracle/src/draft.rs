@@ -240,8 +240,13 @@ impl<'c> Maker<'c> {
 
     /// A form for a piece of this kind, and the word in it that goes on to the target if that is deeper.
     fn form(&mut self, kind: char, level: usize, target: usize) -> (&'static str, Option<usize>) {
+        let plain = self.chance.plain_heads;
         if target > level {
-            let leads = |way: &Way| carries(way.2, level, target) && self.possible(way.2, level, target) && self.has(way.0, level, Some(way.1));
+            // A plain head has nothing below it
+            let closed = |way: &Way| plain && level + 1 < target && role(kind, way.0, way.1, Role::Other) == Role::Head;
+            let leads = |way: &Way| {
+                carries(way.2, level, target) && self.possible(way.2, level, target) && self.has(way.0, level, Some(way.1)) && !closed(way)
+            };
             let mut ways: Vec<Way> = ways(kind).filter(leads).collect();
             if let Some((chained, form)) = self.chain {
                 // Along the chain's form, else towards its kind, else to a predicate
@@ -258,7 +263,8 @@ impl<'c> Maker<'c> {
         // Where no piece is left to make, none of the same kind is made below; at the last level none at all
         let any = level < DEEPEST && self.left > 0;
         let ends = |form: &str| form.split(' ').all(|word| !needed(word) || level < DEEPEST && kind_below(word) != Some(kind));
-        let forms: Vec<_> = forms(kind).iter().filter(|form| self.has(form, level, None) && (any || ends(form))).collect();
+        let fits = |form: &str| !plain || (kind, self.role) != ('E', Role::Head) || ["5 N", "18 F"].contains(&form);
+        let forms: Vec<_> = forms(kind).iter().filter(|form| self.has(form, level, None) && (any || ends(form)) && fits(form)).collect();
         (forms[self.chance.below(forms.len())], None)
     }
 

@@ -8,7 +8,7 @@ use native.Mathlib.Omega.{arith}
 use lib.Dec.{leb, eqb}
 use lib.ListN.{length, drop, getD, drop-of-length-le}
 use lib.Seq.{drop-cons, getD-take}
-use borrow.Author.Tests.{le-leb, lt-leb, leb-true, eqb-true, ne-eqb}
+use borrow.Author.Tests.{leb-true, eqb-true}
 use Rattle.path.specs.declared.Path.{Path}
 use Rattle.path.specs.Offsets.{entries, Leaves}
 use Rattle.path.proofs.Entries.{depth-is}
@@ -17,7 +17,7 @@ use Rattle.task.specs.declared.Number.{Number}
 use Rattle.task.specs.declared.Number.the-variants as number-is
 use Rattle.task.specs.Ast.{Constant, Expr, Pred}
 use Rattle.task.specs.Decode.{Res, got, number, many, counted, binder, decPred, deepest, flags, exprForms, decExpr, predForms}
-use Rattle.task.specs.Fault.{binderFault, predFault}
+use Rattle.task.specs.Fault.{binderFault}
 use Rattle.task.specs.Task.{literallyTrue}
 use Rattle.task.specs.Node.{numberOf}
 use Rattle.smtlib.proofs.Bools.{clash}
@@ -25,16 +25,17 @@ use Rattle.task.proofs.Reading.{bind-got, got-refuse, coded-at}
 use Rattle.task_check.specs.declared.Walked.{Walked}
 use Rattle.task_check.specs.declared.Walked.the-variants as walked-is
 use Rattle.task_check.specs.Walk.{walked, readTrue}
+use Rattle.task_check.proofs.Preds.{trueAt, true-at}
 use Rattle.task_check.proofs.Rows.{refused-is}
 use Rattle.smt_text.specs.Encoder.{Encoder}
 use Rattle.smt_text.specs.Text.{spaced, write-binder, write-pred}
 use Rattle.horn_text.specs.Clauses.{ForAll, kept, guardsOf}
 use Rattle.horn_text.specs.Script.{write-preds}
 use Rattle.task.specs.Run.{Runs}
-use Rattle.task.proofs.Running.{runs-refused, runs-end, Steps, Owing, owing-start, owing-more, owing-end}
+use Rattle.task.proofs.Running.{runs-end, Steps, Owing, owing-start, owing-more, owing-end}
 use Rattle.output.specs.Emit.{Output, output, emit, emits, Sends}
 use Rattle.output.proofs.Sent.{emits-append}
-use Rattle.assertion.specs.Under.{forAllAt, onPath, varsText, keptText, guardsText, Listing, listing, lists, trueAt}
+use Rattle.assertion.specs.Under.{forAllAt, onPath, varsText, keptText, guardsText, Listing, listing, lists}
 
 -- PATHS
 
@@ -108,23 +109,7 @@ lists-one enc w p false e = rw (e, emits-append) refl
 
 -- BOOLEAN TRUE
 
--- the test of its three bytes, as the code goes through it
-module _ (s : List ℕ) (at : ℕ) where
-  pub true-short : length s < at + 3 → false ≡ trueAt s at
-  true-short h = rw (lt-leb (at + 3) (length s) h)
-
-  module _ (h : at + 3 ≤ length s) where
-    pub true-first : (getD s at 0 ≡ 1 → ⊥) → false ≡ trueAt s at
-    true-first n = rw (le-leb (at + 3) (length s) h, ne-eqb (getD s at 0) 1 n)
-
-    module _ (e : getD s at 0 ≡ 1) where
-      pub true-second : (getD s (at + 1) 0 ≡ 1 → ⊥) → false ≡ trueAt s at
-      true-second n = rw (le-leb (at + 3) (length s) h, e, ne-eqb (getD s (at + 1) 0) 1 n)
-
-      pub true-third : getD s (at + 1) 0 ≡ 1 → eqb (getD s (at + 2) 0) 1 ≡ trueAt s at
-      true-third e' = rw (le-leb (at + 3) (length s) h, e, e')
-
--- they are decoded to it
+-- its three bytes are decoded to it
 true-decoded : (s : List ℕ) (at : ℕ) (a b c d : Bool) → leb (at + 3) (length s) ≡ a → eqb (getD s at 0) 1 ≡ b → eqb (getD s (at + 1) 0) 1 ≡ c → eqb (getD s (at + 2) 0) 1 ≡ d
     → (a && b && c && d) ≡ true → decPred deepest s at ≡ got (Pred.expr (Expr.constant (Constant.boolean true))) (at + 3)
 unfolding decPred decExpr exprForms
@@ -149,12 +134,15 @@ in-section : (a b : Bool) → (a && b) ≡ true → a ≡ true
 in-section true b h = refl
 in-section false b h = h
 
-module _ (s : List ℕ) (at : ℕ) (t : Bool) (e : t ≡ trueAt s at) (h : t ≡ true) where
+module _ (s : List ℕ) (at : ℕ) (t : Bool) (e : t ≡ readTrue (decPred deepest s at)) (h : t ≡ true) where
+  there : trueAt s at ≡ true
+  there = sym (true-at deepest s at (omega arith)) ∙ sym e ∙ h
+
   pub true-room : at + 3 ≤ length s
-  true-room = leb-true (at + 3) (length s) (in-section _ _ (in-section _ _ (in-section _ _ (sym e ∙ h))))
+  true-room = leb-true (at + 3) (length s) (in-section _ _ (in-section _ _ (in-section _ _ there)))
 
   stands : decPred deepest s at ≡ got (Pred.expr (Expr.constant (Constant.boolean true))) (at + 3)
-  stands = true-decoded s at _ _ _ _ refl refl refl refl (sym e ∙ h)
+  stands = true-decoded s at _ _ _ _ refl refl refl refl there
 
   -- so it is passed over: nothing is sent for it, and it is not counted
   pub true-listed : (enc : Encoder) (w : Listing) → Runs (λ v p. lists enc v (p ∷ [])) (decPred deepest s at) w w (at + 3)
@@ -175,17 +163,6 @@ module _ (enc : Encoder) (x : Res Pred) (t : Bool) (e : t ≡ readTrue x) where
   guard-other o o1 o2 n q f e1 w p z e' =
       let v = w p z e' in
       (v .0, rw (v .1, e1) (sym (lists-one enc (record { out = o; count = n }) p false (tested p z e' ∙ f))))
-
-  module _ (v : Walked) (e2 : v ≡ walked predFault x) where
-    pub guard-true : (w : Listing) (q : ℕ) (f : Fault) → t ≡ true → v ≡ walked-is.Next q f → Runs (λ v p. lists enc v (p ∷ [])) x w w q
-    guard-true w q f h e3 p z e' =
-        let y : walked-is.Next q f ≡ walked-is.Next z (predFault p) = sym e3 ∙ e2 ∙ ap (walked predFault) e' in
-        (cc, sym (lists-one enc w p true (tested p z e' ∙ h)))
-
--- one that the walker refuses is refused
-pub guard-refused : (enc : Encoder) (x : Res Pred) (v : Walked) (w w' : Listing) (r k : ℕ) → v ≡ walked predFault x → v ≡ walked-is.Refused k
-    → Runs (λ v p. lists enc v (p ∷ [])) x w w' r
-guard-refused enc x v w w' r k e e' = rw (refused-is predFault x k (sym e' ∙ e)) (runs-refused (λ v p. lists enc v (p ∷ [])) w w' r k)
 
 -- SENT ONE BY ONE
 
@@ -264,11 +241,11 @@ module _ {W : Type 0} (all : W → List Pred → W) (s : List ℕ) (o : ℕ) (w 
       let i = parts s o f z g in
       got-refuse (sym (i .binds) ∙ refused-is binderFault (binder deepest s o) k (sym e' ∙ e))
 
-  module _ (p : ℕ) (h : Fault) (e' : v ≡ walked-is.Next p h) (m : Number) (u : number 2 s p ≡ numberOf m) where
+  module _ (p : ℕ) (h : Fault) (e' : v ≡ walked-is.Next h p) (m : Number) (u : number 2 s p ≡ numberOf m) where
     behind : (f : ForAll) (z : ℕ) (g : forAllAt s o ≡ got f z) → parts s o f z g .p ≡ p
     behind f z g =
         let i = parts s o f z g in
-        let x : walked-is.Next p h ≡ walked-is.Next (i .p) (binderFault (f .binder)) = sym e' ∙ e ∙ ap (walked binderFault) (i .binds) in
+        let x : walked-is.Next h p ≡ walked-is.Next (binderFault (f .binder)) (i .p) = sym e' ∙ e ∙ ap (walked binderFault) (i .binds) in
         cc
 
     pub own-uncounted : m ≡ number-is.Refused → Runs (λ z f. all z (f .preds)) (forAllAt s o) w w' 0

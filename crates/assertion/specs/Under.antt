@@ -3,7 +3,7 @@ use Prim.Native.Nat.{ℕ, _+_}
 use mathlib.Core.Bool.{Bool, cond, _&&_}
 use mathlib.Core.List.{List, [], _∷_, _++_}
 use mathlib.Core.Path.{_≡_}
-use lib.Dec.{leb, ltb, eqb}
+use lib.Dec.{ltb, eqb}
 use lib.ListN.{length, getD}
 use Rattle.task.specs.Ast.{Pred}
 use Rattle.task.specs.Decode.{Res, got, bind, counted, binder, decPred, deepest}
@@ -48,10 +48,6 @@ listing b n k = record { out = output b n; count = k }
 -- the guards among predicates are sent, a space before each, and counted
 unfoldable pub lists : Encoder → Listing → List Pred → Listing
 lists enc w ps = record { out = emits (w .out) (keptText enc ps); count = w .count + length (kept ps) }
-
--- the bytes of Boolean true as a predicate
-abbrev pub trueAt : List ℕ → ℕ → Bool
-trueAt s at = leb (at + 3) (length s) && eqb (getD s at 0) 1 && eqb (getD s (at + 1) 0) 1 && eqb (getD s (at + 2) 0) 1
 
 -- AN ASSERTION, ROUND ITS BINDERS AND GUARDS
 

@@ -17,7 +17,7 @@ ghost use Rattle.path.specs.Offsets.{entries, Leaves};
 ghost use Rattle.output.specs.Emit.{output, most, emits, Sends};
 ghost use Rattle.names.specs.Table.{Chained};
 ghost use Rattle.smt_sort.specs.Section.{encoderIn};
-ghost use Rattle.assertion.specs.Under.{forAllAt, onPath, varsText, guardsText, listing, lists, trueAt, kvarAt, formOf, openingText, impliesText, groupText, ungroupText, beforeText, behindText, endText, headText, HeadSends, assertText};
+ghost use Rattle.assertion.specs.Under.{forAllAt, onPath, varsText, guardsText, listing, lists, kvarAt, formOf, openingText, impliesText, groupText, ungroupText, beforeText, behindText, endText, headText, HeadSends, assertText};
 ghost use Rattle.assertion.specs.Kept.{plus as plusIs, minus as minusIs, Within, fits as fitsIn, guardsIn, Stores, Counts, Extends, Numbers, MeasuredSends, KeptSends};
 
 // Guards in a row: where the next predicate stands, what was sent, and how many guards they are.
@@ -57,26 +57,7 @@ fn write_each_var(s: &[u8], path: Path, enc: &[u16], buf: &mut [u8], out: Out) -
     sent
 }
 
-// Whether the three bytes of Boolean true as a predicate stand at a position.
-fn is_true_at(s: &[u8], at: usize) -> bool
-    ensures { λ r. ⌜ r ≡ trueAt (now (s .entry)) at ⌝ }
-{
-    if s.len() < 3 {
-        return false;
-    }
-    if s.len() - 3 < at {
-        return false;
-    }
-    if s[at] != 1 {
-        return false;
-    }
-    if s[at + 1] != 1 {
-        return false;
-    }
-    s[at + 2] == 1
-}
-
-// Sends the next predicate with a space before it and counts it, unless it is literally true.
+// Sends the next predicate with a space before it and counts it, unless it is literally true: three bytes that are passed over.
 fn write_guard(s: &[u8], from: Listed, enc: &[u16], buf: &mut [u8]) -> Listed
     requires { ⌜ Chained (now s) (now enc) × (from .count < most) ⌝ }
     ensures { λ r. ⌜ Runs (λ w p. lists (encoderIn (now (s .entry)) (now (enc .entry))) w (p ∷ [])) (decPred deepest (now (s .entry)) (from .at)) (listing (now (buf .entry)) (from .out .len) (from .count)) (listing (now (buf .exit)) (r .out .len) (r .count)) (r .at) ⌝ }
@@ -85,19 +66,12 @@ fn write_guard(s: &[u8], from: Listed, enc: &[u16], buf: &mut [u8]) -> Listed
     let at = from.at;
     let out = from.out;
     let count = from.count;
-    if is_true_at(s, at) {
+    if task_check::is_literally_true(s, at, 256) {
         return Listed {
             at: at + 3,
             out,
             count,
         };
-    }
-    if task_check::is_literally_true(s, at, 256) {
-        let walked = task_check::check_pred(s, at, 256);
-        let Walked::Next(q, _) = walked else {
-            return from;
-        };
-        return Listed { at: q, out, count };
     }
     let spaced = out.byte(buf, b' ');
     let one = smt_fmt::write_pred(s, at, 256, enc, buf, spaced);
@@ -129,7 +103,7 @@ fn write_own_guards(s: &[u8], at: usize, enc: &[u16], buf: &mut [u8], out: Out) 
     ensures { λ r. ⌜ Runs (λ w f. lists (encoderIn (now (s .entry)) (now (enc .entry))) w (f .preds)) (forAllAt (now (s .entry)) at) (listing (now (buf .entry)) (out .len) 0) (listing (now (buf .exit)) (r .out .len) (r .count)) 0 ⌝ }
 {
     let binder = task_check::check_binder(s, at, 256);
-    let Walked::Next(p, _) = binder else {
+    let Walked::Next(_, p) = binder else {
         return Listed { at, out, count: 0 };
     };
     let number = task::number_at(s, p, 2);

@@ -18,7 +18,7 @@ use Rattle.task.specs.declared.ConstraintNode.the-variants as constraint-node
 use Rattle.task.specs.Ast.{Sort, Binder, Pred, Constraint, Constraints}
 use Rattle.task.specs.Decode.{Res, got, refuse, bind, give, _▹_, number, many, counted, name, binder, decSort, decPred, constraintForms, decConstraint}
 use Rattle.task.specs.Fault.{lower, each, nameFault, sortFault, binderFault, predFault, shadowFault, constraintFault, constraintsFault}
-use Rattle.task.specs.Task.{literallyTrue, predHeads, headsOf, headsIn}
+use Rattle.task.specs.Task.{predHeads, headsOf, headsIn}
 use Rattle.task.specs.Node.{numberOf, bytesOf, spanOf, constraintOf, ConstraintAt}
 use Rattle.task.proofs.Reading.{coded-at, bind-got, same-value}
 use Rattle.task.proofs.Judging.{lower-assoc, lower-comm, sound-lower}
@@ -44,7 +44,7 @@ module _ {A B : Type 0} (one : A → Fault) (whole : B → Fault) (number : B �
   stops j e e' =
       parts e' refl ∙ sym (ap (λ (y : Res A). tally whole number (bind y k)) (refused-is one x j (sym e' ∙ e)))
 
-  pub goes : (q : ℕ) (g : Fault) (c : Counted) → v ≡ walked one x → v ≡ walked-is.Next q g
+  pub goes : (q : ℕ) (g : Fault) (c : Counted) → v ≡ walked one x → v ≡ walked-is.Next g q
       → ((a : A) → x ≡ got a q → one a ≡ g → c ≡ tally whole number (k a q)) → c ≡ tally whole number (bind x k)
   goes q g c e e' h =
       let y = next-is one x q g (sym e' ∙ e) in
@@ -54,28 +54,19 @@ module _ {A B : Type 0} (one : A → Fault) (whole : B → Fault) (number : B �
 pub ends : {A B : Type 0} (one : A → Fault) (count : A → ℕ) (whole : B → Fault) (number : B → ℕ) (x : Res A) (k : A → B) (f : Fault)
     → ((a : A) → whole (k a) ≡ lower f (one a)) → ((a : A) → number (k a) ≡ count a)
     → answer (after f (walked one x)) (found count x) ≡ tally whole number (bind x (λ a q. got (k a) q))
-ends one count whole number (got a q) k f h g = parts (ap (walked-is.Next q) (sym (h a))) (sym (g a))
+ends one count whole number (got a q) k f h g = parts (ap (λ (z : Fault). walked-is.Next z q) (sym (h a))) (sym (g a))
 ends one count whole number (refuse j) k f h g = refl
 
 -- a head
 module _ (x : Res Pred) (v : Walked) (e : v ≡ walked predFault x) where
-  pub head-refused : (j : ℕ) → v ≡ walked-is.Refused j → answer v 0 ≡ tally predFault predHeads x
-  head-refused j e' = parts e' refl ∙ sym (ap (tally predFault predHeads) (refused-is predFault x j (sym e' ∙ e)))
+  pub head-refused : (j : ℕ) → v ≡ walked-is.Refused j → answer (walked-is.Refused j) 0 ≡ tally predFault predHeads x
+  head-refused j e' = sym (ap (tally predFault predHeads) (refused-is predFault x j (sym e' ∙ e)))
 
-  module _ (q : ℕ) (f : Fault) (e' : v ≡ walked-is.Next q f) (t : Bool) (u : t ≡ readTrue x) where
-    pub head-true : t ≡ true → answer v 0 ≡ tally predFault predHeads x
-    unfolding predHeads
-    head-true u' =
-        let y = next-is predFault x q f (sym e' ∙ e) in
-        let z : literallyTrue (y .value) ≡ true = sym (ap readTrue (y .is)) ∙ sym u ∙ u' in
-        parts e (sym (ap (found predHeads) (y .is) ∙ ap (λ (b : Bool). cond b 0 1) z))
-
-    pub head-other : t ≡ false → answer v 1 ≡ tally predFault predHeads x
-    unfolding predHeads
-    head-other u' =
-        let y = next-is predFault x q f (sym e' ∙ e) in
-        let z : literallyTrue (y .value) ≡ false = sym (ap readTrue (y .is)) ∙ sym u ∙ u' in
-        parts e (sym (ap (found predHeads) (y .is) ∙ ap (λ (b : Bool). cond b 0 1) z))
+  pub head-read : (q : ℕ) (f : Fault) (n : ℕ) → v ≡ walked-is.Next f q → n ≡ cond (readTrue x) 0 1 → answer (walked-is.Next f q) n ≡ tally predFault predHeads x
+  unfolding predHeads
+  head-read q f n e' u =
+      let y = next-is predFault x q f (sym e' ∙ e) in
+      parts (sym e' ∙ e) (u ∙ ap (λ (z : Res Pred). cond (readTrue z) 0 1) (y .is) ∙ sym (ap (found predHeads) (y .is)))
 
 -- the node of a head is known from its code
 pub head-node : (l : ℕ) (s : List ℕ) (at : ℕ) (b : Bool) → b ≡ isHead l s at → b ≡ true → (l ≡ 0 → ⊥) × ConstraintAt s at (constraint-node.Pred (at + 1))
@@ -135,7 +126,7 @@ module _ (l : ℕ) (s : List ℕ) (at : ℕ) (v : Walked) (u : v ≡ walked bind
   unfolding behind
   header-stops j u' = walk-stops binderFault headerFault (binder l s at) behind v j u u'
 
-  module _ (p : ℕ) (f : Fault) (u' : v ≡ walked-is.Next p f) (k : Number) (i : number 2 s p ≡ numberOf k) where
+  module _ (p : ℕ) (f : Fault) (u' : v ≡ walked-is.Next f p) (k : Number) (i : number 2 s p ≡ numberOf k) where
     from-binder : (w : Walked) → ((b : Binder) → binderFault b ≡ f → w ≡ walked headerFault (behind b p)) → w ≡ walked headerFault (header l s at)
     unfolding behind
     from-binder w h = walk-goes binderFault headerFault (binder l s at) behind v p f w u u' (λ b z g. h b g)
@@ -201,7 +192,7 @@ module _ (l : ℕ) (s offsets : List ℕ) (at : ℕ) (x : SpanRead) (e : name s 
     pub for-all-stops : (j : ℕ) → v ≡ walked-is.Refused j → answer v 0 ≡ tally (constraintFault (namesOn s offsets)) headsOf (forAll l s at)
     for-all-stops j u' = from-header (answer v 0) (stops headerFault (constraintFault (namesOn s offsets)) headsOf (header l s at) (under l s) v j u u')
 
-    pub for-all-walks : (t : ℕ) (f : Fault) (offsets' : List ℕ) (c : Counted) (fs fb : Fault) (w : Walked) → v ≡ walked-is.Next t f
+    pub for-all-walks : (t : ℕ) (f : Fault) (offsets' : List ℕ) (c : Counted) (fs fb : Fault) (w : Walked) → v ≡ walked-is.Next f t
         → offsets' ≡ offsets ++ at ∷ [] → c ≡ tally (constraintFault (namesOn s offsets')) headsOf (decConstraint l s t)
         → fs ≡ shadowFault (namesOn s offsets) (bytesOf s y) → fb ≡ lower f fs → w ≡ after fb (c .walked)
         → answer w (c .heads) ≡ tally (constraintFault (namesOn s offsets)) headsOf (forAll l s at)
@@ -264,9 +255,9 @@ module _ (s : List ℕ) (l : ℕ) (around : List (List ℕ)) where
       as-walked = d ∙ ap (λ (y : Counted). y .walked) e
 
       pub going-stops : (j : ℕ) → v ≡ walked-is.Refused j
-          → answer v 0 ≡ tally (constraintsFault around) headsIn (many Constraints.none Constraints.more (decConstraint l) n s at)
+          → answer (walked-is.Refused j) 0 ≡ tally (constraintsFault around) headsIn (many Constraints.none Constraints.more (decConstraint l) n s at)
       going-stops j e' =
-          parts (row-stops (members-fold around) (decConstraint l) s left p f (walked (constraintsFault around) (many Constraints.none Constraints.more (decConstraint l) n s at)) v j z as-walked e' (i .fault))
+          parts (sym e' ∙ row-stops (members-fold around) (decConstraint l) s left p f (walked (constraintsFault around) (many Constraints.none Constraints.more (decConstraint l) n s at)) v j z as-walked e' (i .fault))
           (sym (ap (added h) refused) ∙ i .heads)
         where
           refused : many Constraints.none Constraints.more (decConstraint l) left s p ≡ refuse j
@@ -275,7 +266,7 @@ module _ (s : List ℕ) (l : ℕ) (around : List (List ℕ)) where
               ap (λ (k : ℕ). many Constraints.none Constraints.more (decConstraint l) k s p) m
               ∙ ap (λ (y : Res Constraint). bind y (λ a q. bind (many Constraints.none Constraints.more (decConstraint l) (left - 1) s q) (λ b r. got (Constraints.more a b) r))) (refused-is (constraintFault around) (decConstraint l s p) j (sym e' ∙ as-walked))
 
-      module _ (q : ℕ) (g : Fault) (e' : v ≡ walked-is.Next q g) where
+      module _ (q : ℕ) (g : Fault) (e' : v ≡ walked-is.Next g q) where
         one : Nexts (constraintFault around) (decConstraint l s p) q g
         one = next-is (constraintFault around) (decConstraint l s p) q g (sym e' ∙ as-walked)
 
@@ -309,7 +300,7 @@ module _ (s : List ℕ) (l : ℕ) (around : List (List ℕ)) where
                 ∙ ap (λ (y : Res Constraint). added h (bind y (λ a q. bind (many Constraints.none Constraints.more (decConstraint l) (left - 1) s q) (λ b r. got (Constraints.more a b) r)))) (one .is)
                 ∙ add-member h (one .value) (many Constraints.none Constraints.more (decConstraint l) (left - 1) s q)
 
-    pub going-ends : left ≤ 0 → answer (walked-is.Next p f) h ≡ tally (constraintsFault around) headsIn (many Constraints.none Constraints.more (decConstraint l) n s at)
+    pub going-ends : left ≤ 0 → answer (walked-is.Next f p) h ≡ tally (constraintsFault around) headsIn (many Constraints.none Constraints.more (decConstraint l) n s at)
     unfolding headsIn
     going-ends z =
         parts (row-ends (members-fold around) (decConstraint l) s left p f (walked (constraintsFault around) (many Constraints.none Constraints.more (decConstraint l) n s at)) z (i .fault))

@@ -16,7 +16,8 @@ ghost use Rattle.task.specs.Fault.{predFault, constraintFault, constraintsFault
 ghost use Rattle.task.specs.Task.{predHeads, headsOf, headsIn};
 ghost use Rattle.task.specs.Node.{bytesOf};
 ghost use Rattle.task_check.specs.declared.Walked.the-variants as walked-is;
-ghost use Rattle.task_check.specs.Walk.{walked};
+ghost use mathlib.Core.Bool.{cond};
+ghost use Rattle.task_check.specs.Walk.{walked, readTrue};
 ghost use Rattle.path.specs.Offsets.{entries, Leaves};
 ghost use Rattle.constraint_check.specs.Tally.{answer, tally};
 ghost use Rattle.constraint_check.specs.Around.{namesOn, isHead, headerFault, header, forAll};
@@ -57,18 +58,31 @@ pub fn is_head(s: &[u8], at: usize, levels: usize) -> bool
     s[at] == 0
 }
 
+// 1, or 0 for a predicate that is literally true or none.
+fn count_of(s: &[u8], at: usize, levels: usize) -> u64
+    ensures { λ r. ⌜ r ≡ cond (readTrue (decPred levels (now (s .entry)) at)) 0 1 ⌝ }
+{
+    if task_check::is_literally_true(s, at, levels) {
+        return 0;
+    }
+    1
+}
+
 // A head: the predicate at a position.
 fn check_head(s: &[u8], at: usize, levels: usize) -> Counted
     ensures { λ r. ⌜ r ≡ tally predFault predHeads (decPred levels (now (s .entry)) at) ⌝ }
 {
-    let walked = task_check::check_pred(s, at, levels);
-    let Walked::Next(_, _) = walked else {
-        return Counted { walked, heads: 0 };
-    };
-    if task_check::is_literally_true(s, at, levels) {
-        return Counted { walked, heads: 0 };
+    let read = task_check::check_pred(s, at, levels);
+    match read {
+        Walked::Next(f, p) => Counted {
+            walked: Walked::Next(f, p),
+            heads: count_of(s, at, levels),
+        },
+        Walked::Refused(k) => Counted {
+            walked: Walked::Refused(k),
+            heads: 0,
+        },
     }
-    Counted { walked, heads: 1 }
 }
 
 // The constraint at a position, inside the ForAlls of the path.
@@ -109,16 +123,23 @@ fn check_members(s: &[u8], at: usize, n: u64, levels: usize, path: Path) -> Coun
             check_within(s, p, levels, path)
         };
         let walked = one.walked;
-        let Walked::Next(q, f) = walked else {
-            return Counted { walked, heads: 0 };
-        };
-        p = q;
-        fault = task_check::lower(fault, f);
-        heads = heads + one.heads;
-        left -= 1;
+        match walked {
+            Walked::Next(f, q) => {
+                p = q;
+                fault = task_check::lower(fault, f);
+                heads = heads + one.heads;
+                left -= 1;
+            }
+            Walked::Refused(k) => {
+                return Counted {
+                    walked: Walked::Refused(k),
+                    heads: 0,
+                };
+            }
+        }
     }
     Counted {
-        walked: Walked::Next(p, fault),
+        walked: Walked::Next(fault, p),
         heads,
     }
 }
@@ -138,7 +159,7 @@ pub fn check_header(s: &[u8], at: usize, levels: usize) -> Walked
     ensures { λ r. ⌜ r ≡ walked headerFault (header levels (now (s .entry)) at) ⌝ }
 {
     let binder = task_check::check_binder(s, at, levels);
-    let Walked::Next(p, f) = binder else {
+    let Walked::Next(f, p) = binder else {
         return binder;
     };
     let count = task::number_at(s, p, 2);
@@ -159,7 +180,7 @@ fn check_for_all(s: &[u8], at: usize, levels: usize, mut path: Path) -> Counted
         return refused();
     };
     let header = check_header(s, at, levels);
-    let Walked::Next(p, f) = header else {
+    let Walked::Next(f, p) = header else {
         return Counted {
             walked: header,
             heads: 0,

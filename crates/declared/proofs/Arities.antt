@@ -135,7 +135,7 @@ module _ (s t : List ℕ) (at : ℕ) (r : Ready s t) where
     kvar-none q k e = kvar-refused q k (refused-is kvarFault (kvar s at) k (sym e ∙ g))
 
     -- there is one
-    module _ (v : SpanRead) (h : name s at ≡ spanOf s v) (x : Span) (p : ℕ) (e : v ≡ span-is.At x p) (q : ℕ) (f : Fault) (g' : w ≡ walked-is.Next q f) (y : List ℕ) (ey : y ≡ bytesOf s x)
+    module _ (v : SpanRead) (h : name s at ≡ spanOf s v) (x : Span) (p : ℕ) (e : v ≡ span-is.At x p) (q : ℕ) (f : Fault) (g' : w ≡ walked-is.Next f q) (y : List ℕ) (ey : y ≡ bytesOf s x)
         (found : Found) (i : found ≡ lastOf (fits y 1 1) (entries s t)) where
       is-name : name s at ≡ got (bytesOf s x) p
       is-name = h ∙ ap (spanOf s) e

@@ -93,7 +93,7 @@ module _ {A : Type 0} (symbols : A → List Symbol) (s t : List ℕ) (c : Chaine
   some-collects u at n d k w e = record { chained = w .chained; kept = w .kept; words = w .words; runs = λ a p g. got-refuse (sym g ∙ e) }
 
 -- a piece without names is walked over
-pub skip-collects : {A : Type 0} (fault : A → Fault) (d : Res A) (s u : List ℕ) (v : Walked) (q : ℕ) (f : Fault) → Chained s u → v ≡ walked fault d → v ≡ walked-is.Next q f
+pub skip-collects : {A : Type 0} (fault : A → Fault) (d : Res A) (s u : List ℕ) (v : Walked) (q : ℕ) (f : Fault) → Chained s u → v ≡ walked fault d → v ≡ walked-is.Next f q
     → Collects (λ (a : A). []) d s u u q
 unfolding adds
 skip-collects fault d s u v q f c e g =
@@ -154,7 +154,7 @@ module _ (s t : List ℕ) (at : ℕ) (v : SpanRead) (h : name s at ≡ spanOf s 
         some-collects (named kind) s t (l .chained) r u at (kindNumber kind) (binder levels s at) n w
         (rw (is-name, refused-is (sortFault false) (decSort levels s p) n (sym e2 ∙ e1)))
 
-    pub sorted : (levels : ℕ) (kind : Kind) (u : List ℕ) (z : Walked) (q : ℕ) (f : Fault) → Pushed s t at (kindNumber kind) u → z ≡ walked (sortFault false) (decSort levels s p) → z ≡ walked-is.Next q f
+    pub sorted : (levels : ℕ) (kind : Kind) (u : List ℕ) (z : Walked) (q : ℕ) (f : Fault) → Pushed s t at (kindNumber kind) u → z ≡ walked (sortFault false) (decSort levels s p) → z ≡ walked-is.Next f q
         → Collects (named kind) (binder levels s at) s t u q
     sorted levels kind u z q f w e1 e2 =
         made-collects (named kind) (λ b. []) (λ b. record { name = bytesOf s x; sort = b }) s t u u at (kindNumber kind) (bytesOf s x) p q (binder levels s at) (decSort levels s p)

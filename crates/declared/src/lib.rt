@@ -10,7 +10,7 @@ use trailer::Bounds;
 ghost use mathlib.Core.List.{[], _∷_};
 ghost use Prim.Native.Nat.{_+_, _≤_};
 ghost use lib.ListN.{length};
-ghost use Rattle.task.specs.Decode.{many, name, binder, dataCtor, datatype, kvar, deepest};
+ghost use Rattle.task.specs.Decode.{many, name, binder, dataCtor, datatype, kvar};
 ghost use Rattle.trailer.specs.Bounds.{Inside, startOf, endOf};
 ghost use Rattle.names.specs.Change.{Blank};
 ghost use Rattle.declared.specs.Symbols.{alone, named, rowSymbols, ctorSymbols, ctorsSymbols, datatypeSymbols};
@@ -27,7 +27,7 @@ fn push_binder(s: &[u8], at: usize, levels: usize, kind: Kind, table: &mut [u16]
     };
     names::push(s, table, at, kind);
     let sort = task_check::check_sort(s, p, levels, false);
-    let Walked::Next(q, _) = sort else {
+    let Walked::Next(_, q) = sort else {
         return at;
     };
     q
@@ -192,7 +192,7 @@ fn push_kvar(s: &[u8], at: usize, table: &mut [u16]) -> usize
         return at;
     };
     let item = item_check::check_item(s, at, Section::KVars);
-    let Walked::Next(q, _) = item else {
+    let Walked::Next(_, q) = item else {
         return at;
     };
     let found = names::find(s, table, task::bytes_of(s, x), Kind::KVar, Kind::KVar);

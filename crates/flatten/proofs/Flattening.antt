@@ -15,6 +15,7 @@ use Rattle.task.specs.declared.ConstraintNode.the-variants as constraint-node
 use Rattle.task.specs.Ast.{Sort, Binder, Pred, Constraint, Constraints}
 use Rattle.task.specs.Decode.{Res, got, bind, number, many, counted, name, binder, decSort, decPred, decConstraint, deepest}
 use Rattle.task.specs.Fault.{predFault}
+use Rattle.task.specs.Run.{Runs}
 use Rattle.task.specs.Task.{literallyTrue}
 use Rattle.task.specs.Node.{constraintOf, ConstraintAt}
 use Rattle.task.proofs.Reading.{bind-got, got-refuse}
@@ -35,7 +36,7 @@ use Rattle.horn_text.specs.Clauses.{ForAll, bindersOf, guardsOf, flatten-constr
 use Rattle.horn_text.specs.Script.{write-assert, write-asserts}
 use Rattle.horn_text.proofs.Places.{binders-snoc, guards-snoc}
 use Rattle.output.specs.Emit.{output, most}
-use Rattle.task.proofs.Running.{runs-refused, runs-end, runs-then, Steps, Owing, owing-start, owing-more, owing-end}
+use Rattle.task.proofs.Running.{runs-refused, runs-end, runs-then, Steps}
 use Rattle.assertion.specs.declared.Kept.{Kept}
 use Rattle.assertion.specs.Under.{forAllAt, onPath, assertText, HeadSends}
 use Rattle.assertion.specs.Kept.{measured, plus, minus, Within, fits, Keeps, Stays, Extended, Extends, Numbers, MeasuredSends, KeptSends}
@@ -47,7 +48,7 @@ use Rattle.flatten.specs.declared.Progress.{Progress}
 use Rattle.flatten.specs.declared.Moved.{Moved}
 use Rattle.flatten.specs.declared.Row.{Row}
 use Rattle.flatten.specs.Parts.{Writing, writing, has, passed, put, puts, Puts, PutsUnder, headParts, clauseParts, memberParts}
-use Rattle.flatten.specs.Walk.{Ready, enough, wanted, Passes, Places, MeasuredPlaces, KeptPlaces, PathPlaces, KeptPuts}
+use Rattle.flatten.specs.Walk.{Ready, enough, wanted, Passes, Places, MeasuredPlaces, KeptPlaces, PathPlaces, KeptPuts, Onward, HeadsPut}
 use Rattle.flatten.proofs.Lending.{Counted, part-placed, put-out, puts-append}
 
 -- HEADS
@@ -65,9 +66,9 @@ module _ (d : Res Pred) (f : Moved) (v : Walked) (e : v ≡ walked predFault d) 
       rw (refused-is predFault d k (sym e' ∙ e))
       (runs-refused (λ z a. puts z (headParts enc fs a)) (writing (f .progress) b ls) (writing (f .progress) b ls) (f .at) k)
 
-  module _ (t : Bool) (h : t ≡ readTrue d) (q : ℕ) (x : Fault) (e' : v ≡ walked-is.Next q x) where
+  module _ (t : Bool) (h : t ≡ readTrue d) (q : ℕ) (x : Fault) (e' : v ≡ walked-is.Next x q) where
     ends : (a : Pred) (z : ℕ) → d ≡ got a z → q ≡ z
-    ends a z k = let y : walked-is.Next q x ≡ walked-is.Next z (predFault a) = sym e' ∙ e ∙ ap (walked predFault) k in cc
+    ends a z k = let y : walked-is.Next x q ≡ walked-is.Next (predFault a) z = sym e' ∙ e ∙ ap (walked predFault) k in cc
 
     -- one that is literally true has none
     pub head-true : (m : Moved) → t ≡ true → (m .at ≡ q) × (m .progress ≡ f .progress) → Passes f d m
@@ -151,16 +152,7 @@ module _ (s enc : List ℕ) (d : Res Pred) (p p' : Progress) (xs ys ls ls' : Lis
   unfolding HeadSends PathPlaces Places
   path-placed path w fs q g = part-placed (assertText (encoderIn s enc) fs) p p' xs ls ls' d ys start z n at e e0 m (w fs q g) e'
 
--- where ForAlls stand on a path and all is kept of them, their heads are those of the path
-pub kept-under : (s enc text os : List ℕ) (kept : Kept) (fs : List ForAll) (z : ℕ) (d : Res Pred) (w w' : Writing) (at : ℕ) → onPath s os ≡ got fs z
-    → Keeps (encoderIn s enc) fs text kept → KeptPuts s enc text kept d w w' at → PutsUnder (headParts (encoderIn s enc)) (onPath s os) d w w' at
-unfolding KeptPuts PutsUnder
-kept-under s enc text os kept fs z d w w' at e k u gs q g =
-    let n : got fs z ≡ got gs q = sym e ∙ g in
-    let i : fs ≡ gs = cc in
-    rw i at (u fs k)
-
--- and the number of their guards is that of the path
+-- where ForAlls stand on a path and all is kept of them, the number of their guards is that of the path
 pub kept-numbers : (s enc text os : List ℕ) (kept : Kept) (fs : List ForAll) (z : ℕ) → onPath s os ≡ got fs z → Keeps (encoderIn s enc) fs text kept → Numbers s os (kept .count)
 unfolding Numbers
 kept-numbers s enc text os kept fs z e k gs q g =
@@ -228,31 +220,68 @@ member-steps enc fs = record {
       ∙ puts-append w (write-asserts enc (flatten-constraint c (bindersOf fs) (guardsOf fs))) (write-asserts enc (flatten-constraints cs (bindersOf fs) (guardsOf fs)));
 }
 
+-- a piece before the rest of a row
+runs-before : {A R W : Type 0} {end : R} {more : A → R → R} {one : W → A → W} {all : W → R → W} (steps : Steps end more one all) (x : Res A) (rest : ℕ → Res R) (w w' z : W) (p t : ℕ)
+    → Runs one x w w' p → Runs all (rest p) w' z t → Runs all (bind x (λ a p1. bind (rest p1) (λ b q. got (more a b) q))) w z t
+runs-before {more = more} {all = all} steps x rest w w' z p t u v b q e =
+    let i = bind-got x (λ a p1. bind (rest p1) (λ c p2. got (more a c) p2)) b q e in
+    let j = bind-got (rest (i .next)) (λ c p2. got (more (i .value) c) p2) b q (i .then) in
+    let y = u (i .value) (i .next) (i .first) in
+    let y' = v (j .value) (j .next) (rw (y .0) (j .first)) in
+    let eb : more (i .value) (j .value) ≡ b = cc in
+    let ep : j .next ≡ q = cc in
+    (y' .0 ∙ ep, y' .1 ∙ rw (y .1) (sym (steps .step w (i .value) (j .value)) ∙ ap (all w) eb))
+
+module _ (holds : List ForAll → Type 0) (enc : Encoder) (l : ℕ) (s : List ℕ) where
+  pub onward-start : (n at : ℕ) (w : Writing) → Onward holds enc l s n at w n at w
+  unfolding Onward
+  onward-start n at w fs h z t u = u
+
+  onward-one : (n p : ℕ) (w w' : Writing) (t : ℕ) → 0 < n → ((fs : List ForAll) → holds fs → Puts (clauseParts enc fs) (decConstraint l s p) w w' t)
+      → Onward holds enc l s n p w (n - 1) t w'
+  unfolding Onward Puts
+  onward-one zero p w w' t h u fs e z r v = absurd (omega arith)
+  onward-one (suc n) p w w' t h u fs e z r v =
+      let en : suc n - 1 ≡ n = omega arith in
+      runs-before (member-steps enc fs) (decConstraint l s p) (many Constraints.none Constraints.more (decConstraint l) n s) w w' z t r (u fs e) (rw en at v)
+
+  module _ (n at : ℕ) (w : Writing) (n1 p : ℕ) (w1 : Writing) (i : Onward holds enc l s n at w n1 p w1) where
+    pub onward-then : (n2 q : ℕ) (w2 : Writing) → Onward holds enc l s n1 p w1 n2 q w2 → Onward holds enc l s n at w n2 q w2
+    unfolding Onward
+    onward-then n2 q w2 j fs h z t u = i fs h z t (j fs h z t u)
+
+    -- one more constraint
+    pub onward-more : (w2 : Writing) (t : ℕ) → 0 < n1 → ((fs : List ForAll) → holds fs → Puts (clauseParts enc fs) (decConstraint l s p) w1 w2 t)
+        → Onward holds enc l s n at w (n1 - 1) t w2
+    onward-more w2 t h u = onward-then (n1 - 1) t w2 (onward-one n1 p w1 w2 t h u)
+
+    -- none is left
+    pub onward-end : n1 ≤ 0 → (fs : List ForAll) → holds fs → Puts (memberParts enc fs) (many Constraints.none Constraints.more (decConstraint l) n s at) w w1 p
+    unfolding Onward Puts
+    onward-end h fs e =
+        let en : n1 ≡ 0 = omega arith in
+        i fs e w1 p (rw en (λ b q g. let z : Constraints.none ≡ b = cc in (cc, sym (member-steps enc fs .none w1) ∙ ap (λ (cs : Constraints). puts w1 (memberParts enc fs cs)) z)))
+
+    pub onward-holds : (holds' : List ForAll → Type 0) → ((fs : List ForAll) → holds' fs → holds fs) → Onward holds' enc l s n at w n1 p w1
+    unfolding Onward
+    onward-holds holds' k fs h z t u = i fs (k fs h) z t u
+
+-- the loop over members on a path: n of m are left
 module _ (enc : Encoder) (path : Res (List ForAll)) (l : ℕ) (s : List ℕ) (m at : ℕ) (first : Writing) where
-  -- the loop: n members from p on are left
   pub Members : ℕ → ℕ → Writing → Type 0
-  Members n p w =
-      (fs : List ForAll) (q : ℕ) → path ≡ got fs q
-      → Owing (member-steps enc fs) (many Constraints.none Constraints.more (decConstraint l) m s at) first (many Constraints.none Constraints.more (decConstraint l) n s p) w
+  Members n p w = (q : ℕ) → Onward (λ fs. path ≡ got fs q) enc l s m at first n p w
 
   pub members-start : Members m at first
   unfolding Members
-  members-start fs q g = owing-start (member-steps enc fs) (many Constraints.none Constraints.more (decConstraint l) m s at) first
+  members-start q = onward-start _ enc l s m at first
 
   pub members-more : (n p : ℕ) (w w' : Writing) (t : ℕ) → 0 < n → Members n p w → PutsUnder (clauseParts enc) path (decConstraint l s p) w w' t → Members (n - 1) t w'
-  unfolding Members PutsUnder Puts
-  members-more zero p w w' t h i u fs q g = absurd (omega arith)
-  members-more (suc n) p w w' t h i u fs q g =
-      let en : suc n - 1 ≡ n = omega arith in
-      rw en
-      (owing-more (member-steps enc fs) (many Constraints.none Constraints.more (decConstraint l) m s at) first (decConstraint l s p) (many Constraints.none Constraints.more (decConstraint l) n s)
-      w w' t (i fs q g) (u fs q g))
+  unfolding Members PutsUnder
+  members-more n p w w' t h i u q = onward-more _ enc l s m at first n p w (i q) w' t h (λ fs g. u fs q g)
 
   pub members-end : (n p : ℕ) (w : Writing) → n ≤ 0 → Members n p w → PutsUnder (memberParts enc) path (many Constraints.none Constraints.more (decConstraint l) m s at) first w p
-  unfolding Members PutsUnder Puts
-  members-end n p w h i fs q g =
-      let en : n ≡ 0 = omega arith in
-      owing-end (member-steps enc fs) (many Constraints.none Constraints.more (decConstraint l) m s at) first p w (rw en at (i fs q g))
+  unfolding Members PutsUnder
+  members-end n p w h i fs q g = onward-end _ enc l s m at first n p w (i q) h fs g
 
 -- A FORALL
 
@@ -349,12 +378,12 @@ module _ (enc : Encoder) (s os : List ℕ) (l at : ℕ) (pr : Progress) (xs ls :
   for-all-unheaded k e' fs q g c z h = got-refuse (sym (headed c z h) ∙ refused-is headerFault (header l s at) k (sym e' ∙ e))
 
   -- its body is walked with its offset on the path
-  pub for-all-puts : (b : ℕ) (x : Fault) (os' : List ℕ) (j : Moved) → l ≤ deepest → v ≡ walked-is.Next b x → os' ≡ os ++ at ∷ [] → To j b pr
+  pub for-all-puts : (b : ℕ) (x : Fault) (os' : List ℕ) (j : Moved) → l ≤ deepest → v ≡ walked-is.Next x b → os' ≡ os ++ at ∷ [] → To j b pr
       → PutsUnder (clauseParts enc) (onPath s os') (decConstraint l s (j .at)) (writing (j .progress) xs ls) w' t → PutsUnder (clauseParts enc) (onPath s os) (forAll l s at) (writing pr xs ls) w' t
   unfolding PutsUnder Puts
   for-all-puts b x os' j d e' o ej i fs y g c z h =
       let a = parts l s at c z h in
-      let eb : walked-is.Next b x ≡ walked-is.Next (a .body) (headerFault (record { binder = a .all .binder; preds = a .all .preds })) = sym e' ∙ e ∙ ap (walked headerFault) (headed c z h) in
+      let eb : walked-is.Next x b ≡ walked-is.Next (headerFault (record { binder = a .all .binder; preds = a .all .preds })) (a .body) = sym e' ∙ e ∙ ap (walked headerFault) (headed c z h) in
       let e1 : b ≡ a .body = cc in
       let stands : forAllAt s at ≡ got (a .all) 0 = header-at l s at (a .all .binder) (a .all .preds) (a .body) d (headed c z h) in
       let on : onPath s os' ≡ got (fs ++ a .all ∷ []) 0 = ap (onPath s) o ∙ on-snoc s os at fs y (a .all) g stands in
@@ -362,7 +391,7 @@ module _ (enc : Encoder) (s os : List ℕ) (l at : ℕ) (pr : Progress) (xs ls :
       (n .0, n .1 ∙ rw (ej .1) (under-one enc (writing pr xs ls) fs (a .all) (a .inner) ∙ ap (λ (k : Constraint). puts (writing pr xs ls) (clauseParts enc fs k)) (a .is)))
 
 -- a header that was read has an offset of two bytes
-pub header-offset : (l : ℕ) (s : List ℕ) (at : ℕ) (v : Walked) (q : ℕ) (f : Fault) → v ≡ walked headerFault (header l s at) → v ≡ walked-is.Next q f → length s < 65536 → at < 65536
+pub header-offset : (l : ℕ) (s : List ℕ) (at : ℕ) (v : Walked) (q : ℕ) (f : Fault) → v ≡ walked headerFault (header l s at) → v ≡ walked-is.Next f q → length s < 65536 → at < 65536
 header-offset l s at v q f e e' h =
     let y = next-is headerFault (header l s at) q f (sym e' ∙ e) in
     let b = bind-got (binder l s at) _ (y .value) q (y .is) in
@@ -388,21 +417,65 @@ module _ (size room : ℕ) (kept : Kept) where
   pub enough-room : enough size room kept ≡ true → (room ≡ 0 → ⊥) → fits size kept ≡ true
   enough-room h n = rw (ne-eqb room 0 n) at h
 
-module _ (l : ℕ) (s : List ℕ) (at : ℕ) (known c : Bool) (e : c ≡ (known && isHead l s at)) (e' : c ≡ true) where
-  pub kept-head-known : known ≡ true
-  kept-head-known = both known (isHead l s at) (sym e ∙ e') .0
+-- the tests of `is_next_head`
+module _ (l : ℕ) (s : List ℕ) (at : ℕ) (asked c : Bool) (e : c ≡ (asked && isHead l s at)) (e' : c ≡ true) where
+  pub next-asked : asked ≡ true
+  next-asked = both asked (isHead l s at) (sym e ∙ e') .0
 
-  pub kept-head-stands : (0 < l) × (at < length s)
-  kept-head-stands = let h = head-stands l s at true (sym (both known (isHead l s at) (sym e ∙ e') .1)) refl in (h .0, h .1)
+  pub next-stands : isHead l s at ≡ true
+  next-stands = both asked (isHead l s at) (sym e ∙ e') .1
 
-  pub kept-head-puts : (enc text os : List ℕ) (kept : Kept) (fs : List ForAll) (z : ℕ) (f m : Moved) (b ls : List ℕ) (w' : Writing) (t : ℕ) → at ≡ f .at → onPath s os ≡ got fs z
-      → Keeps (encoderIn s enc) fs text kept → (m .at ≡ at + 1) × (m .progress ≡ f .progress) → KeptPuts s enc text kept (decPred (l - 1) s (m .at)) (writing (m .progress) b ls) w' t
-      → PutsUnder (clauseParts (encoderIn s enc)) (onPath s os) (decConstraint l s (f .at)) (writing (f .progress) b ls) w' t
-  kept-head-puts enc text os kept fs z f m b ls w' t ea on k u w =
-      let n = head-node l s at true (sym (both known (isHead l s at) (sym e ∙ e') .1)) refl in
+-- a head in a row
+module _ (l : ℕ) (s : List ℕ) (at : ℕ) (h : isHead l s at ≡ true) where
+  pub head-within : (0 < l) × (at < length s)
+  head-within = let i = head-stands l s at true (sym h) refl in (i .0, i .1)
+
+  pub head-put : (enc text : List ℕ) (kept : Kept) (f m : Moved) (b ls : List ℕ) (w' : Writing) (t : ℕ) → at ≡ f .at
+      → (m .at ≡ at + 1) × (m .progress ≡ f .progress) → KeptPuts s enc text kept (decPred (l - 1) s (m .at)) (writing (m .progress) b ls) w' t
+      → (fs : List ForAll) → Keeps (encoderIn s enc) fs text kept → Puts (clauseParts (encoderIn s enc) fs) (decConstraint l s (f .at)) (writing (f .progress) b ls) w' t
+  unfolding PutsUnder KeptPuts
+  head-put enc text kept f m b ls w' t ea u w fs k =
+      let n = head-node l s at true (sym h) refl in
       rw (← ea)
-      (node-pred (encoderIn s enc) (onPath s os) (f .progress) b ls w' t l s at (constraint-node.Pred (at + 1)) (n .0) (n .1) (at + 1) m refl u
-      (kept-under s enc text os kept fs z (decPred (l - 1) s (m .at)) (writing (m .progress) b ls) w' t on k w))
+      (node-pred (encoderIn s enc) (got fs 0) (f .progress) b ls w' t l s at (constraint-node.Pred (at + 1)) (n .0) (n .1) (at + 1) m refl u
+      (λ gs q g. let i : fs ≡ gs = cc in rw i at (w fs k)) fs 0 refl)
+
+-- ForAlls that stand on a path and of which all is kept
+on-path : (s enc text os : List ℕ) (kept : Kept) (fs gs : List ForAll) (z q : ℕ) → onPath s os ≡ got fs z → Keeps (encoderIn s enc) fs text kept → onPath s os ≡ got gs q
+    → Keeps (encoderIn s enc) gs text kept
+on-path s enc text os kept fs gs z q e k g =
+    let n : got fs z ≡ got gs q = sym e ∙ g in
+    let i : fs ≡ gs = cc in
+    rw i at k
+
+-- heads of a row that were put are members that were put
+pub members-heads : (s enc text : List ℕ) (path : Path) (kept : Kept) (l : ℕ) → Ready s enc text path kept l → (m at : ℕ) (first : Writing) (n p : ℕ) (w : Writing) (n' p' : ℕ) (w' : Writing)
+    → Members (encoderIn s enc) (onPath s (entries path)) l s m at first n p w
+    → Onward (λ fs. Keeps (encoderIn s enc) fs text kept) (encoderIn s enc) l s n p w n' p' w'
+    → Members (encoderIn s enc) (onPath s (entries path)) l s m at first n' p' w'
+unfolding Members
+members-heads s enc text path kept l r m at first n p w n' p' w' i j q =
+    onward-then _ (encoderIn s enc) l s m at first n p w (i q) n' p' w'
+    (onward-holds _ (encoderIn s enc) l s n p w n' p' w' j (λ fs. onPath s (entries path) ≡ got fs q) (λ fs g. on-path s enc text (entries path) kept (r .around) fs 0 q (r .stands) (r .keeps) g))
+
+-- a head by itself is a row of one
+one-head : (s enc text : List ℕ) (path : Path) (kept : Kept) (l : ℕ) → Ready s enc text path kept l → (at : ℕ) (w : Writing) (n p : ℕ) (w' : Writing) → n < 1
+    → Onward (λ fs. Keeps (encoderIn s enc) fs text kept) (encoderIn s enc) l s 1 at w n p w'
+    → PutsUnder (clauseParts (encoderIn s enc)) (onPath s (entries path)) (decConstraint l s at) w w' p
+unfolding PutsUnder Puts
+one-head s enc text path kept l r at w n p w' h j fs q g c z e =
+    let k = on-path s enc text (entries path) kept (r .around) fs 0 q (r .stands) (r .keeps) g in
+    let u = onward-end _ (encoderIn s enc) l s 1 at w n p w' j (omega arith) fs k (Constraints.more c Constraints.none) z (rw e refl) in
+    let st = member-steps (encoderIn s enc) fs in
+    (u .0, u .1 ∙ st .step w c Constraints.none ∙ st .none (puts w (clauseParts (encoderIn s enc) fs c)))
+
+pub row-of-one : (s enc text : List ℕ) (path : Path) (k : Kept) (l : ℕ) → Ready s enc text path k l → (at : ℕ) (pr : Progress) (xs ls : List ℕ) (m r : Row) (w' : Writing)
+    → (m .from .moved .at ≡ at) × (m .from .moved .progress ≡ pr) × (m .from .kept ≡ k) × (m .left ≡ 1)
+    → HeadsPut s enc text l m (writing (m .from .moved .progress) xs ls) r w' → r .left < m .left
+    → PutsUnder (clauseParts (encoderIn s enc)) (onPath s (entries path)) (decConstraint l s at) (writing pr xs ls) w' (r .from .moved .at)
+row-of-one s enc text path k l rd at pr xs ls m r w' e h g =
+    let n = e .3 in
+    one-head s enc text path k l rd at (writing pr xs ls) (r .left) (r .from .moved .at) w' (omega arith) (rw (e .0, e .1, e .2, e .3) at h)
 
 -- READY
 
@@ -430,7 +503,7 @@ module _ (s enc text : List ℕ) (path : Path) (k : Kept) (l : ℕ) (h : Ready s
 -- A FORALL'S OWN
 
 module _ (s enc text text' : List ℕ) (path : Path) (k own : Kept) (l at : ℕ) (h : Ready s enc text path k (l + 1)) (v : Walked) (b : ℕ) (x : Fault)
-    (e : v ≡ walked headerFault (header l s at)) (e' : v ≡ walked-is.Next b x) (u : Extends s enc at k text text' own) where
+    (e : v ≡ walked headerFault (header l s at)) (e' : v ≡ walked-is.Next x b) (u : Extends s enc at k text text' own) where
   -- the ForAll
   last : ForAll
   last = let y = next-is headerFault (header l s at) b x (sym e' ∙ e) in record { binder = y .value .binder; preds = y .value .preds }

@@ -5,8 +5,8 @@ use mathlib.Core.List.{List}
 use mathlib.Core.Path.{_≡_}
 use lib.Dec.{eqb}
 use lib.ListN.{length}
-use Rattle.task.specs.Ast.{Pred}
-use Rattle.task.specs.Decode.{Res, got}
+use Rattle.task.specs.Ast.{Pred, Constraints}
+use Rattle.task.specs.Decode.{Res, got, many, decConstraint}
 use Rattle.task.specs.Run.{Runs}
 use Rattle.task_check.specs.Walk.{readTrue}
 use Rattle.path.specs.declared.Path.{Path}
@@ -21,7 +21,8 @@ use Rattle.assertion.specs.Under.{onPath, assertText}
 use Rattle.flatten.specs.declared.Progress.{Progress}
 use Rattle.flatten.specs.declared.Moved.{Moved}
 use Rattle.flatten.specs.declared.Walk.{Walk}
-use Rattle.flatten.specs.Parts.{Writing, writing, has, place, Puts, headParts}
+use Rattle.flatten.specs.declared.Row.{Row}
+use Rattle.flatten.specs.Parts.{Writing, writing, has, place, Puts, headParts, memberParts}
 
 -- A walk may go on: the offsets of the file have two bytes, the table of names can be searched, and the path has room for the levels that are
 -- left. W-202: ForAlls stand at the path's offsets, and the numbers that are kept are equal to those of their binders and guards measured afresh,
@@ -69,3 +70,15 @@ PathPlaces enc path d w w' at = (fs : List ForAll) (q : ℕ) → path ≡ got fs
 -- The parts of a head under the ForAlls of which the text is kept were put.
 unfoldable pub KeptPuts : List ℕ → List ℕ → List ℕ → Kept → Res Pred → Writing → Writing → ℕ → Type 0
 KeptPuts s enc text kept d w w' at = (fs : List ForAll) → Keeps (encoderIn s enc) fs text kept → Puts (headParts (encoderIn s enc) fs) d w w' at
+
+-- Some constraints of a row were put, and n' of them are left: whoever puts those has put the row, under any ForAlls for which the condition holds.
+unfoldable pub Onward : (List ForAll → Type 0) → Encoder → ℕ → List ℕ → ℕ → ℕ → Writing → ℕ → ℕ → Writing → Type 0
+Onward holds enc l s n at w n' at' w' =
+    (fs : List ForAll) → holds fs → (z : Writing) (t : ℕ)
+    → Puts (memberParts enc fs) (many Constraints.none Constraints.more (decConstraint l) n' s at') w' z t
+    → Puts (memberParts enc fs) (many Constraints.none Constraints.more (decConstraint l) n s at) w z t
+
+-- So it was with heads under the ForAlls of which the text is kept.
+abbrev pub HeadsPut : List ℕ → List ℕ → List ℕ → ℕ → Row → Writing → Row → Writing → Type 0
+HeadsPut s enc text l row w rest w' =
+    Onward (λ fs. Keeps (encoderIn s enc) fs text (row .from .kept)) (encoderIn s enc) l s (row .left) (row .from .moved .at) w (rest .left) (rest .from .moved .at) w'

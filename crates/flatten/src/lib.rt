@@ -10,7 +10,7 @@ use task_check::Walked;
 ghost use mathlib.Core.Bool.{true, _&&_};
 ghost use mathlib.Core.List.{[]};
 ghost use mathlib.Core.Path.{_≡_};
-ghost use Prim.Native.Nat.{_+_, _-_, _≤_, min, max};
+ghost use Prim.Native.Nat.{_+_, _≤_, _<_, min, max};
 ghost use lib.ListN.{length, set};
 ghost use Rattle.task.specs.Ast.{Constraints};
 ghost use Rattle.task.specs.Decode.{many, decPred, decConstraint};
@@ -22,7 +22,7 @@ ghost use Rattle.output.specs.Emit.{most};
 ghost use Rattle.assertion.specs.Kept.{plus, minus, Within, fits, Stays, Numbers};
 ghost use Rattle.assertion.specs.Under.{onPath};
 ghost use Rattle.flatten.specs.Parts.{writing, has as hasIn, most32, noted, placed as placedIs, passed as passedIs, PutsUnder, headParts, clauseParts, memberParts};
-ghost use Rattle.flatten.specs.Walk.{enough as enoughIs, wanted, Passes, MeasuredPlaces, KeptPlaces, PathPlaces, KeptPuts, Ready, Restores};
+ghost use Rattle.flatten.specs.Walk.{enough as enoughIs, wanted, Passes, MeasuredPlaces, KeptPlaces, PathPlaces, KeptPuts, Ready, Restores, HeadsPut};
 
 // The numbers of the parts that are written: from one up to, not including, another.
 pub struct Range {
@@ -64,16 +64,6 @@ fn greatest(a: usize, b: usize) -> usize
         return b;
     }
     a
-}
-
-// The difference of two numbers, or 0.
-fn difference(a: usize, b: usize) -> usize
-    ensures { λ r. ⌜ r ≡ a - b ⌝ }
-{
-    if a < b {
-        return 0;
-    }
-    a - b
 }
 
 // A number in four bytes, or the largest that there is.
@@ -199,7 +189,7 @@ impl Progress {
         let seen = self.seen;
         let len = self.len;
         let longest = self.longest;
-        note(lengths, difference(seen, range.from), n);
+        note(lengths, output::room(seen, range.from), n);
         Progress {
             range,
             seen: output::sum(seen, 1),
@@ -241,7 +231,7 @@ fn pass_head(s: &[u8], from: Moved, levels: usize) -> Moved
     let at = from.at;
     let p = from.progress;
     let walked = task_check::check_pred(s, at, levels);
-    let Walked::Next(q, _) = walked else {
+    let Walked::Next(_, q) = walked else {
         return from;
     };
     if task_check::is_literally_true(s, at, levels) {
@@ -377,39 +367,67 @@ fn flatten_kept_head(
     put_assert(s, from, levels, kept, text, enc, buf, lengths)
 }
 
-// Any head.
+// Whether a head stands at a position, if it is asked for.
+fn is_next_head(s: &[u8], at: usize, levels: usize, asked: bool) -> bool
+    ensures { λ r. ⌜ r ≡ (asked && isHead levels (now (s .entry)) at) ⌝ }
+{
+    if asked {
+        return constraint_check::is_head(s, at, levels);
+    }
+    false
+}
+
+// Such heads in a row, from the first, which is one, to the row's end or to a constraint that is no head.
+fn flatten_heads(
+    s: &[u8],
+    row: Row,
+    levels: usize,
+    text: &[u8],
+    enc: &[u16],
+    buf: &mut [u8],
+    lengths: &mut [u32],
+) -> Row
+    requires { ⌜ Chained (now s) (now enc) × (enoughIs (length (now text)) (length (now buf)) (row .from .kept) ≡ true) ⌝ }
+    requires { ⌜ (isHead levels (now s) (row .from .moved .at) ≡ true) × (0 < row .left) ⌝ }
+    ensures { λ r. ⌜ HeadsPut (now (s .entry)) (now (enc .entry)) (now (text .entry)) levels row (writing (row .from .moved .progress) (now (buf .entry)) (now (lengths .entry))) r (writing (r .from .moved .progress) (now (buf .exit)) (now (lengths .exit))) ⌝ }
+    ensures { λ r. ⌜ (r .left < row .left) × (r .from .kept ≡ row .from .kept) ⌝ }
+{
+    let from = row.from;
+    let kept = from.kept;
+    let mut moved = from.moved;
+    let mut left = row.left;
+    loop {
+        let head = moved.to(moved.at + 1);
+        moved = flatten_kept_head(s, head, levels - 1, kept, text, enc, buf, lengths);
+        left -= 1;
+        if !is_next_head(s, moved.at, levels, 0 < left) {
+            break;
+        }
+    }
+    let walk = Walk { moved, kept };
+    Row { from: walk, left }
+}
+
+// A head of which the assertion is written from the path.
 fn flatten_head(
     s: &[u8],
     from: Walk,
     levels: usize,
     path: Path,
-    text: &[u8],
     enc: &[u16],
     buf: &mut [u8],
     lengths: &mut [u32],
 ) -> Moved
-    requires { ⌜ Ready (now s) (now enc) (now text) path (from .kept) levels ⌝ }
+    requires { ⌜ Chained (now s) (now enc) × Leaves path 0 ⌝ }
+    requires { ⌜ Numbers (now s) (entries path) (from .kept .count) ⌝ }
     ensures { λ r. ⌜ PutsUnder (headParts (encoderIn (now (s .entry)) (now (enc .entry)))) (onPath (now (s .entry)) (entries path)) (decPred levels (now (s .entry)) (from .moved .at)) (writing (from .moved .progress) (now (buf .entry)) (now (lengths .entry))) (writing (r .progress) (now (buf .exit)) (now (lengths .exit))) (r .at) ⌝ }
 {
     let kept = from.kept;
     let moved = from.moved;
-    if is_enough(kept, text.len(), buf.len()) {
-        return flatten_kept_head(s, moved, levels, kept, text, enc, buf, lengths);
-    }
     if is_wanted(s, moved, levels) {
         return put_long_assert(s, moved, levels, path, kept.count, enc, buf, lengths);
     }
     pass_head(s, moved, levels)
-}
-
-// Whether a head stands at a position, if what is kept is enough for it.
-fn is_kept_head(s: &[u8], at: usize, levels: usize, enough: bool) -> bool
-    ensures { λ r. ⌜ r ≡ (enough && isHead levels (now (s .entry)) at) ⌝ }
-{
-    if enough {
-        return constraint_check::is_head(s, at, levels);
-    }
-    false
 }
 
 // The constraint at a position, inside the ForAlls of the path.
@@ -433,10 +451,16 @@ pub fn flatten_constraint(
     }
     let below = levels - 1;
     let moved = from.moved;
-    let node = task::read_constraint_node(s, moved.at);
+    let at = moved.at;
+    let enough = is_enough(from.kept, text.len(), buf.len());
+    if is_next_head(s, at, levels, enough) {
+        let row = flatten_heads(s, from.row(at, 1), levels, text, enc, buf, lengths);
+        return row.from;
+    }
+    let node = task::read_constraint_node(s, at);
     match node {
         ConstraintNode::Pred(q) => {
-            let head = flatten_head(s, from.to(q), below, path, text, enc, buf, lengths);
+            let head = flatten_head(s, from.to(q), below, path, enc, buf, lengths);
             from.behind(head)
         }
         ConstraintNode::Conj(n, q) => {
@@ -449,7 +473,7 @@ pub fn flatten_constraint(
     }
 }
 
-// Constraints in a row, each inside the same ForAlls. A head for which what is kept is enough needs no copy of the path.
+// Constraints in a row, each inside the same ForAlls. Heads for which what is kept is enough need no copy of the path.
 fn flatten_members(
     s: &[u8],
     row: Row,
@@ -471,17 +495,19 @@ fn flatten_members(
     let mut left = row.left;
     let enough = is_enough(kept, text.len(), buf.len());
     while 0 < left {
-        left -= 1;
-        let at = moved.at;
-        if is_kept_head(s, at, levels, enough) {
-            let head = moved.to(at + 1);
-            moved = flatten_kept_head(s, head, levels - 1, kept, text, enc, buf, lengths);
+        let walk = Walk { moved, kept };
+        if is_next_head(s, moved.at, levels, enough) {
+            let heads = Row { from: walk, left };
+            let rest = flatten_heads(s, heads, levels, text, enc, buf, lengths);
+            let behind = rest.from;
+            moved = behind.moved;
+            left = rest.left;
             continue;
         }
-        let walk = Walk { moved, kept };
         let next = flatten_constraint(s, walk, levels, path, enc, buf, text, lengths);
         moved = next.moved;
         kept = next.kept;
+        left -= 1;
     }
     Walk { moved, kept }
 }
@@ -505,7 +531,7 @@ fn flatten_for_all(
     let moved = from.moved;
     let at = moved.at;
     let header = constraint_check::check_header(s, at, levels);
-    let Walked::Next(body, _) = header else {
+    let Walked::Next(_, body) = header else {
         return from;
     };
     let own = assertion::extend(s, at, enc, text, from.kept);

@@ -71,7 +71,7 @@ module _ (one : ℕ → Walked) (end : ℕ) where
       pub listing-stops : (k : ℕ) → v ≡ walked-is.Refused k → listed-is.Refused k ≡ walkItems total one end at
       listing-stops k e' = sym (ap (λ (w : Walked). join (listed-is.Items n f) (onward w (walkItems (i .fuel - 1) one end))) e') ∙ on
 
-      pub listing-goes : (q : ℕ) (g f' : Fault) → v ≡ walked-is.Next q g → p < q → f' ≡ lower f g → Listing one end total at q (n + 1) f'
+      pub listing-goes : (q : ℕ) (g f' : Fault) → v ≡ walked-is.Next g q → p < q → f' ≡ lower f g → Listing one end total at q (n + 1) f'
       listing-goes q g f' e' l u = record {
         fuel = i .fuel - 1;
         enough = let a = i .enough in omega arith;
@@ -103,7 +103,7 @@ module _ {A : Type 0} (fault : A → Fault) (d : Decoder A) (s : List ℕ) where
       go h false = one-by-one (d s at) (walkItems n (λ p. walked fault (d s p)) (length s)) (items n d s) h
 
 -- an item takes a byte at least
-ahead : {A : Type 0} (fault : A → Fault) (d : Decoder A) (s : List ℕ) (p q : ℕ) (f : Fault) → CoversSome d → walked-is.Next q f ≡ walked fault (d s p) → p < q
+ahead : {A : Type 0} (fault : A → Fault) (d : Decoder A) (s : List ℕ) (p q : ℕ) (f : Fault) → CoversSome d → walked-is.Next f q ≡ walked fault (d s p) → p < q
 ahead fault d s p q f c e =
     let y = next-is fault (d s p) q f e in
     let z = c .covered s p (y .value) q (y .is) in
@@ -111,7 +111,7 @@ ahead fault d s p q f c e =
     let b = z .room in
     omega arith
 
-pub item-ahead : (k : Section) (s : List ℕ) (p q : ℕ) (f : Fault) (v : Walked) → v ≡ itemWalk k s p → v ≡ walked-is.Next q f → p < q
+pub item-ahead : (k : Section) (s : List ℕ) (p q : ℕ) (f : Fault) (v : Walked) → v ≡ itemWalk k s p → v ≡ walked-is.Next f q → p < q
 unfolding itemWalk
 item-ahead Comments s p q f v e e' = ahead textFault comment s p q f (each-covers .comments) (sym e' ∙ e)
 item-ahead Datatypes s p q f v e e' = ahead datatypeFault datatype s p q f (each-covers .datatypes) (sym e' ∙ e)
@@ -130,7 +130,7 @@ items-most (suc n) one end at m f e = go (λ q j h u. items-most n one end q j h
     join-items g (listed-is.Refused k) e l = absurd (let z : _≡_ {A = ℕ} 0 1 = cc in omega arith)
 
     step : (w : Walked) → listed-is.Items m f ≡ onward w (walkItems n one end) → ((q j : ℕ) (h : Fault) → listed-is.Items j h ≡ walkItems n one end q → j ≤ n) → m ≤ suc n
-    step (walked-is.Next q g) e l = join-items g (walkItems n one end q) e (l q)
+    step (walked-is.Next g q) e l = join-items g (walkItems n one end q) e (l q)
     step (walked-is.Refused k) e l = absurd (let z : _≡_ {A = ℕ} 0 1 = cc in omega arith)
 
     go : ((q j : ℕ) (h : Fault) → listed-is.Items j h ≡ walkItems n one end q → j ≤ n) → (t : Bool) → listed-is.Items m f ≡ cond t (listed-is.Items 0 Sound) (onward (one at) (walkItems n one end)) → m ≤ suc n

@@ -29,7 +29,7 @@ join (listed-is.Refused k) y = listed-is.Refused k
 
 -- an item, then those behind it
 abbrev pub onward : Walked → (ℕ → Listed) → Listed
-onward (walked-is.Next q f) rest = join (listed-is.Items 1 f) (rest q)
+onward (walked-is.Next f q) rest = join (listed-is.Items 1 f) (rest q)
 onward (walked-is.Refused k) rest = listed-is.Refused k
 
 -- items one after another, by the walk of one: n are enough
@@ -69,7 +69,7 @@ judge b declarations heads f = cond (eqb (refusalOf f) 0) (inspected-is.Task b d
 
 -- the answer by the constraint's walk, given the number and the fault of the items
 abbrev pub conclude : Bounds → ℕ → Fault → Walked → ℕ → Inspected
-conclude b n f (walked-is.Next p g) heads = cond (eqb p (b .end)) (judge b n heads (lower f g)) (inspected-is.Refused 2)
+conclude b n f (walked-is.Next g p) heads = cond (eqb p (b .end)) (judge b n heads (lower f g)) (inspected-is.Refused 2)
 conclude b n f (walked-is.Refused k) heads = inspected-is.Refused k
 
 -- the answer by the walks of the items and of the constraint

@@ -56,7 +56,7 @@ fn check_section(s: &[u8], at: usize, section: Section) -> Listed
     while p < s.len() {
         let one = item_check::check_item(s, p, section);
         match one {
-            Walked::Next(q, f) => {
+            Walked::Next(f, q) => {
                 p = q;
                 count += 1;
                 fault = task_check::lower(fault, f);
@@ -144,7 +144,7 @@ fn conclude(b: Bounds, declarations: u64, fault: Fault, c: Counted) -> Inspected
 {
     let walked = c.walked;
     match walked {
-        Walked::Next(p, f) => {
+        Walked::Next(f, p) => {
             let end = b.end;
             if p == end {
                 judge(b, declarations, c.heads, task_check::lower(fault, f))

@@ -32,7 +32,7 @@ pub last : {A B : Type 0} (one : A → Fault) (whole : B → Fault) (x : Res A) 
 last {A} {B} one whole x k f v w e e' h = e' ∙ ap (after f) e ∙ go x h
   where
     go : (y : Res A) → ((a : A) (q : ℕ) → y ≡ got a q → whole (k a) ≡ lower f (one a)) → after f (walked one y) ≡ walked whole (bind y (λ a q. got (k a) q))
-    go (got a q) h = ap (walked-is.Next q) (sym (h a q refl))
+    go (got a q) h = ap (λ (z : Fault). walked-is.Next z q) (sym (h a q refl))
     go (refuse j) h = refl
 
 -- n pieces in a row are n
@@ -68,7 +68,7 @@ module _ (s : List ℕ) (at : ℕ) (x : SpanRead) (y : Span) (p : ℕ) (c : Numb
       (λ cs t z. rw (i', e, i, many-size [] _∷_ length refl (λ a r. refl) dataCtor s m r cs t z) (sym (lower-assoc (nameFault (bytesOf s y)) (emptyFault m) (each dataCtorFault cs)))))
 
 -- a body
-pub body-none : (inputs : ℕ) (s : List ℕ) (at : ℕ) (b : Bool) → b ≡ false → walked-is.Next at Sound ≡ walked (bodyFault inputs) (body b s at)
+pub body-none : (inputs : ℕ) (s : List ℕ) (at : ℕ) (b : Bool) → b ≡ false → walked-is.Next Sound at ≡ walked (bodyFault inputs) (body b s at)
 unfolding bodyFault
 body-none inputs s at b e = rw e
 
@@ -87,7 +87,7 @@ module _ (inputs : ℕ) (s : List ℕ) (at : ℕ) (c : Number) (e : number 2 s a
     unfolding behind
     body-names-stop j u' = rw (e, e') (stops (each nameFault) (bodyFault inputs) (many [] _∷_ name n s p) behind v j u u')
 
-    pub body-walks : (q : ℕ) (f g h : Fault) (x w : Walked) → v ≡ walked-is.Next q f → g ≡ arityFault n inputs → h ≡ lower g f
+    pub body-walks : (q : ℕ) (f g h : Fault) (x w : Walked) → v ≡ walked-is.Next f q → g ≡ arityFault n inputs → h ≡ lower g f
         → x ≡ walked (exprFault false) (decExpr deepest s q) → w ≡ after h x → w ≡ walked (bodyFault inputs) (body true s at)
     unfolding behind bodyFault
     body-walks q f g h x w u' i i' k k' =
@@ -114,7 +114,7 @@ module _ (s : List ℕ) (at : ℕ) (c : Number) (e : number 2 s at ≡ numberOf 
     pub signature-inputs-stop : (j : ℕ) → v ≡ walked-is.Refused j → v ≡ walked signatureFault (signature [] 0 s at)
     signature-inputs-stop j u' = from-count v (stops sortsFault signatureFault (many Sorts.none Sorts.more (decSort deepest) n s p) from-inputs v j u u')
 
-    module _ (q : ℕ) (f : Fault) (u' : v ≡ walked-is.Next q f) (v' : Walked) (i : v' ≡ walked (sortFault false) (decSort deepest s q)) where
+    module _ (q : ℕ) (f : Fault) (u' : v ≡ walked-is.Next f q) (v' : Walked) (i : v' ≡ walked (sortFault false) (decSort deepest s q)) where
       by-inputs : (w : Walked) → ((ins : Sorts) → sortsFault ins ≡ f → sortsNumber ins ≡ n → w ≡ walked signatureFault (bind (decSort deepest s q) (from-output ins)))
           → w ≡ walked signatureFault (signature [] 0 s at)
       unfolding from-inputs from-output
@@ -125,7 +125,7 @@ module _ (s : List ℕ) (at : ℕ) (c : Number) (e : number 2 s at ≡ numberOf 
       pub signature-output-stops : (j : ℕ) → v' ≡ walked-is.Refused j → v' ≡ walked signatureFault (signature [] 0 s at)
       signature-output-stops j i' = by-inputs v' (λ ins y m. stops (sortFault false) signatureFault (decSort deepest s q) (from-output ins) v' j i i')
 
-      module _ (r : ℕ) (g : Fault) (i' : v' ≡ walked-is.Next r g) (b : FlagRead) (k : flag s r ≡ flagOf b) where
+      module _ (r : ℕ) (g : Fault) (i' : v' ≡ walked-is.Next g r) (b : FlagRead) (k : flag s r ≡ flagOf b) where
         by-output : (w : Walked) → ((ins : Sorts) (out : Sort) → sortsFault ins ≡ f → sortsNumber ins ≡ n → sortFault false out ≡ g → w ≡ walked signatureFault (from-output ins out r))
             → w ≡ walked signatureFault (signature [] 0 s at)
         by-output w h = by-inputs w (λ ins y m. goes (sortFault false) signatureFault (decSort deepest s q) (from-output ins) v' r g w i i' (λ out t z. h ins out y m z))
@@ -154,4 +154,4 @@ unfolding functionFault
 function-walks s at x y p c n q f v w a a' b b' e u u' =
     rw (a, a', b, b') (u' ∙ ap (after f) u ∙ sym (alike (counted Sorts.none Sorts.more (decSort deepest) s q) _ _ f functionFault signatureFault (λ ins q.
     alike (decSort deepest s q) _ _ f functionFault signatureFault (λ out r. alike (flag s r) _ _ f functionFault signatureFault (λ b t.
-    alike (body b s t) _ _ f functionFault signatureFault (λ o y. ap (λ (z : Fault). walked-is.Next y (lower z (lower (sortsFault ins) (lower (sortFault false out) (bodyFault (sortsNumber ins) o))))) (sym e)))))))
+    alike (body b s t) _ _ f functionFault signatureFault (λ o y. ap (λ (z : Fault). walked-is.Next (lower z (lower (sortsFault ins) (lower (sortFault false out) (bodyFault (sortsNumber ins) o)))) y) (sym e)))))))

@@ -30,7 +30,7 @@ fn check_comment(s: &[u8], at: usize) -> Walked
     let SpanRead::At(x, p) = text else {
         return Walked::Refused(2);
     };
-    Walked::Next(p, task_check::text_fault(s, x))
+    Walked::Next(task_check::text_fault(s, x), p)
 }
 
 // A constructor: a name and counted fields.
@@ -60,14 +60,14 @@ fn check_ctors(s: &[u8], at: usize, n: u64) -> Walked
     let mut fault = Fault::Sound;
     while 0 < left {
         let one = check_ctor(s, p);
-        let Walked::Next(q, f) = one else {
+        let Walked::Next(f, q) = one else {
             return one;
         };
         p = q;
         fault = task_check::lower(fault, f);
         left -= 1;
     }
-    Walked::Next(p, fault)
+    Walked::Next(fault, p)
 }
 
 // The fault of a datatype without constructors.
@@ -109,14 +109,14 @@ pub fn check_names(s: &[u8], at: usize, n: u64) -> Walked
     let mut fault = Fault::Sound;
     while 0 < left {
         let one = check_name(s, p);
-        let Walked::Next(q, f) = one else {
+        let Walked::Next(f, q) = one else {
             return one;
         };
         p = q;
         fault = task_check::lower(fault, f);
         left -= 1;
     }
-    Walked::Next(p, fault)
+    Walked::Next(fault, p)
 }
 
 // A name.
@@ -127,7 +127,7 @@ fn check_name(s: &[u8], at: usize) -> Walked
     let SpanRead::At(x, p) = name else {
         return Walked::Refused(2);
     };
-    Walked::Next(p, task_check::name_fault(s, x))
+    Walked::Next(task_check::name_fault(s, x), p)
 }
 
 // The fault of a body with another number of argument names than the function has inputs.
@@ -149,7 +149,7 @@ fn check_present(s: &[u8], at: usize, inputs: u64) -> Walked
         return Walked::Refused(2);
     };
     let names = check_names(s, p, n);
-    let Walked::Next(q, f) = names else {
+    let Walked::Next(f, q) = names else {
         return names;
     };
     let fault = task_check::lower(arity_fault(n, inputs), f);
@@ -163,7 +163,7 @@ fn check_body(s: &[u8], at: usize, has: bool, inputs: u64) -> Walked
     if has {
         return check_present(s, at, inputs);
     }
-    Walked::Next(at, Fault::Sound)
+    Walked::Next(Fault::Sound, at)
 }
 
 // A function behind its parameters: counted input sorts, the output sort, a flag and the body.
@@ -175,11 +175,11 @@ fn check_signature(s: &[u8], at: usize) -> Walked
         return Walked::Refused(2);
     };
     let inputs = task_check::check_sorts(s, p, n, 256);
-    let Walked::Next(q, f) = inputs else {
+    let Walked::Next(f, q) = inputs else {
         return inputs;
     };
     let output = task_check::check_sort(s, q, 256, false);
-    let Walked::Next(r, g) = output else {
+    let Walked::Next(g, r) = output else {
         return output;
     };
     let flag = task::read_flag(s, r);

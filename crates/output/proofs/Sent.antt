@@ -59,35 +59,36 @@ sets-all (x ∷ t) b at zero h = sym (sets-out b at (x ∷ t) (omega arith))
 sets-all (x ∷ t) b at (suc i) h =
     sets-all t (set b at x) (suc at) i (let e : length (set b at x) ≡ length b = length-set b at x in omega arith)
 
--- `store`: of the n bytes that fit, i are stored
-pub record Storing (b t : List ℕ) (at n : ℕ) (now : List ℕ) (i : ℕ) : Type 0 where
+-- `copy`: of the n bytes to copy, i are stored
+pub record Copying (b t : List ℕ) (at n : ℕ) (now : List ℕ) (i : ℕ) : Type 0 where
+  pub some : i ≤ n
   pub stored : now ≡ sets b at (take i t)
   pub size : length now ≡ length b
-  pub fit : n ≡ min (length t) (length b - at)
 
 module _ (b t : List ℕ) (at n : ℕ) where
-  pub store-start : (left : ℕ) → n ≡ min (length t) left → left ≡ length b - at → Storing b t at n b 0
-  store-start left e e' = record { stored = refl; size = refl; fit = e ∙ ap (min (length t)) e' }
+  pub copy-start : Copying b t at n b 0
+  copy-start = record { some = omega arith; stored = refl; size = refl }
 
-  pub store-more : (now : List ℕ) (i : ℕ) → Storing b t at n now i → i < n → Storing b t at n (set now (at + i) (getD t i 0)) (i + 1)
-  store-more now i s h =
-      let g : i < length t = omega (arith, s .fit) in
-      record {
-        stored = ap (λ (l : List ℕ). set l (at + i) (getD t i 0)) (s .stored) ∙ sets-step t b at i g ∙ ap (λ (k : ℕ). sets b at (take k t)) (sym (add-one i));
-        size = length-set now (at + i) (getD t i 0) ∙ s .size;
-        fit = s .fit;
-      }
+  pub copy-more : (now : List ℕ) (i : ℕ) → n ≤ length t → Copying b t at n now i → i < n → Copying b t at n (set now (at + i) (getD t i 0)) (i + 1)
+  copy-more now i p s h = record {
+    some = omega arith;
+    stored = ap (λ (l : List ℕ). set l (at + i) (getD t i 0)) (s .stored) ∙ sets-step t b at i (omega arith) ∙ ap (λ (k : ℕ). sets b at (take k t)) (sym (add-one i));
+    size = length-set now (at + i) (getD t i 0) ∙ s .size;
+  }
 
-  pub store-end : (now : List ℕ) (i : ℕ) → Storing b t at n now i → n ≤ i → now ≡ sets b at t
-  store-end now i s h = s .stored ∙ sets-all t b at i (omega (arith, s .fit))
+  pub copy-end : (now : List ℕ) (i : ℕ) → Copying b t at n now i → n ≤ i → now ≡ sets b at (take n t)
+  copy-end now i s h =
+      let e : i ≡ n = omega (arith, s .some) in
+      s .stored ∙ ap (λ (k : ℕ). sets b at (take k t)) e
 
--- `bytes`: what was stored and counted is what is sent
-pub sent : (t b b' : List ℕ) (n m : ℕ) → length b ≤ most → n ≤ most → b' ≡ sets b n t → m ≡ min (n + length t) most → output b' m ≡ emits (output b n) t
-sent t b b' n m hb hn e e' = output-path e e' ∙ sym (emits-sets t b n hb hn)
+-- `bytes`: what was copied and counted is what is sent
+pub copied : (t b b' : List ℕ) (n m k : ℕ) → length b ≤ most → n ≤ most → b' ≡ sets b n (take k t) → min (length t) (length b - n) ≤ k → m ≡ min (n + length t) most
+    → output b' m ≡ emits (output b n) t
+copied t b b' n m k hb hn e h e' = output-path (e ∙ sets-all t b n k h) e' ∙ sym (emits-sets t b n hb hn)
 
 -- where the buffer has no room for it, its length alone is needed
 pub sent-out : (t b : List ℕ) (n m : ℕ) → length b ≤ n → n ≤ most → m ≡ min (n + length t) most → output b m ≡ emits (output b n) t
-sent-out t b n m h hn e = sent t b b n m (omega arith) hn (sym (sets-out b n t h)) e
+sent-out t b n m h hn e = output-path (sym (sets-out b n t h)) e ∙ sym (emits-sets t b n (omega arith) hn)
 
 -- `byte`: a byte with room for it, and one without
 module _ (b : List ℕ) (n m x : ℕ) (e : m ≡ min (n + 1) most) where

@@ -1,3 +1,4 @@
--- What it is to send a text to a buffer, and how the code lays out its names.
+-- What it is to send a text to a buffer, and how the code lays out its digits and its names.
 pub mod Emit
+pub mod Digits
 pub mod Names

@@ -3,10 +3,11 @@ use smt_text::Edition;
 use task::Span;
 use task::ThyFunc;
 ghost use mathlib.Core.Path.{_≡_};
-ghost use mathlib.Core.List.{[], _∷_};
+ghost use mathlib.Core.Bool.{true};
+ghost use mathlib.Core.List.{[], _∷_, _++_};
 ghost use Prim.Native.Nat.{_+_, _-_, _*_, _/_, _%_, _^_, _≤_, _<_, min};
 ghost use lib.Dec.{ltb};
-ghost use lib.ListN.{length, drop};
+ghost use lib.ListN.{length, take, drop};
 ghost use lib.Seq.{sets};
 ghost use Rattle.smtlib.specs.Lexicon.{any};
 ghost use Rattle.smtlib.specs.Read.{doubled as doubledOf};
@@ -16,6 +17,7 @@ ghost use Rattle.smt_text.specs.Editions.{namesOf};
 ghost use Rattle.smt_text.specs.Text.{write-thy-func, write-name, write-string};
 ghost use Rattle.smt_text.specs.Table.{isQuote};
 ghost use Rattle.output.specs.Emit.{output, most, emit, emits};
+ghost use Rattle.output.specs.Digits.{padded};
 ghost use Rattle.output.specs.Names.{nameAt, placeOf, lengthOf, behindOf, inEdition, indexedText, entryOf};
 
 // How many bytes were sent.
@@ -23,16 +25,16 @@ pub struct Out {
     pub len: usize,
 }
 
-// A number divided by ten, and its last digit.
+// A number divided by 10^9, and the rest.
 struct Divided {
     lo: u64,
     hi: u64,
-    digit: u8,
+    rest: u64,
 }
 
 // The digits of a number stand from a place on.
 struct Digits {
-    bytes: [u8; 39],
+    bytes: [u8; 45],
     start: usize,
 }
 
@@ -184,8 +186,8 @@ pub fn sum(a: usize, b: usize) -> usize
     18446744073709551615
 }
 
-// How much of a buffer is left behind a place.
-fn room(size: usize, at: usize) -> usize
+// The difference of two numbers, or 0: how much of a buffer is left behind a place.
+pub fn room(size: usize, at: usize) -> usize
     ensures { λ r. ⌜ r ≡ size - at ⌝ }
 {
     if at < size {
@@ -194,11 +196,11 @@ fn room(size: usize, at: usize) -> usize
     0
 }
 
-// Stores what fits of a text from a place on.
-fn store(buf: &mut [u8], at: usize, text: &[u8])
-    ensures { λ r. ⌜ now (buf .exit) ≡ sets (now (buf .entry)) at (now (text .entry)) ⌝ }
+// Copies the first n bytes of a text to a place of a buffer.
+fn copy(buf: &mut [u8], at: usize, text: &[u8], n: usize)
+    requires { ⌜ (n ≤ length (now text)) × (n ≤ length (now buf) - at) ⌝ }
+    ensures { λ r. ⌜ now (buf .exit) ≡ sets (now (buf .entry)) at (take n (now (text .entry))) ⌝ }
 {
-    let n = least(text.len(), room(buf.len(), at));
     let mut i: usize = 0;
     while i < n {
         buf[at + i] = text[i];
@@ -206,49 +208,81 @@ fn store(buf: &mut [u8], at: usize, text: &[u8])
     }
 }
 
-// The number divided by ten: 2^64 is 10 * 1844674407370955161 + 6.
+// The number divided by 10^9: a long division by limbs of 32 bits.
 fn divide(lo: u64, hi: u64) -> Divided
-    ensures { λ r. ⌜ (r .lo + 2 ^ 64 * r .hi ≡ (lo + 2 ^ 64 * hi) / 10) × (r .digit ≡ (lo + 2 ^ 64 * hi) % 10) ⌝ }
+    ensures { λ r. ⌜ (r .lo + 2 ^ 64 * r .hi ≡ (lo + 2 ^ 64 * hi) / 10 ^ 9) × (r .rest ≡ (lo + 2 ^ 64 * hi) % 10 ^ 9) ⌝ }
 {
-    let r = hi % 10;
-    let m = 6 * r + lo % 10;
+    let high = hi % 1000000000 * 4294967296 + lo / 4294967296;
+    let low = high % 1000000000 * 4294967296 + lo % 4294967296;
     Divided {
-        lo: r * 1844674407370955161 + lo / 10 + m / 10,
-        hi: hi / 10,
-        digit: (m % 10) as u8,
+        lo: high / 1000000000 * 4294967296 + low / 1000000000,
+        hi: hi / 1000000000,
+        rest: low % 1000000000,
     }
 }
 
-fn below_ten(lo: u64, hi: u64) -> bool
-    ensures { λ r. ⌜ r ≡ ltb (lo + 2 ^ 64 * hi) 10 ⌝ }
+// Whether a number has nine digits at the most.
+fn is_short(lo: u64, hi: u64) -> bool
+    ensures { λ r. ⌜ r ≡ ltb (lo + 2 ^ 64 * hi) (10 ^ 9) ⌝ }
 {
     if hi == 0 {
-        return lo < 10;
+        return lo < 1000000000;
     }
     false
 }
 
-// The decimal of a number of two halves, filled in from the last digit on.
-fn digits_of(lo: u64, hi: u64) -> Digits
-    ensures { λ r. ⌜ (drop (r .start) (r .bytes) ≡ decimalOf (lo + 2 ^ 64 * hi)) × (r .start < 39) × (length (r .bytes) ≡ 39) ⌝ }
+// Puts the last nine digits of a number before a place.
+fn fill(bytes: &mut [u8], end: usize, n: u64)
+    requires { ⌜ (9 ≤ end) × (end ≤ length (now bytes)) ⌝ }
+    ensures { λ r. ⌜ drop (end - 9) (now (bytes .exit)) ≡ padded 9 n ++ drop end (now (bytes .entry)) ⌝ }
 {
-    let mut bytes = [48u8; 39];
-    let mut i: usize = 38;
+    let mut i: usize = 0;
+    let mut m = n;
+    while i < 9 {
+        i += 1;
+        bytes[end - i] = 48 + (m % 10) as u8;
+        m = m / 10;
+    }
+}
+
+// Puts the digits of a number before a place that has room for them, and tells where they begin.
+fn fill_last(bytes: &mut [u8], end: usize, n: u64) -> usize
+    requires { ⌜ (1 ≤ end) × (end ≤ length (now bytes)) × (n < 10 ^ end) ⌝ }
+    ensures { λ r. ⌜ (drop r (now (bytes .exit)) ≡ decimalOf n ++ drop end (now (bytes .entry))) × (r < end) ⌝ }
+{
+    let mut i = end - 1;
+    let mut m = n;
+    while 10 <= m {
+        bytes[i] = 48 + (m % 10) as u8;
+        m = m / 10;
+        i -= 1;
+    }
+    bytes[i] = 48 + m as u8;
+    i
+}
+
+// The decimal of a number of two halves, filled in from the last digit on. If `keep` is false only where it begins is told.
+fn digits_of(lo: u64, hi: u64, keep: bool) -> Digits
+    ensures { λ r. ⌜ (keep ≡ true → drop (r .start) (r .bytes) ≡ decimalOf (lo + 2 ^ 64 * hi)) × (45 - r .start ≡ length (decimalOf (lo + 2 ^ 64 * hi))) × (r .start < 45) × (length (r .bytes) ≡ 45) ⌝ }
+{
+    let mut bytes = [48u8; 45];
+    let mut end: usize = 45;
     let mut l = lo;
     let mut h = hi;
     loop {
-        if below_ten(l, h) {
+        if is_short(l, h) {
             break;
         }
         let q = divide(l, h);
-        bytes[i] = 48 + q.digit;
+        if keep {
+            fill(&mut bytes, end, q.rest);
+        }
         l = q.lo;
         h = q.hi;
-        i -= 1;
+        end -= 9;
     }
-    let q = divide(l, h);
-    bytes[i] = 48 + q.digit;
-    Digits { bytes, start: i }
+    let start = fill_last(&mut bytes, end, l);
+    Digits { bytes, start }
 }
 
 // Whether a text has a quotation mark. Every byte is looked at: a loop with no other way out is compiled to look at many at once.
@@ -274,12 +308,19 @@ impl Out {
         Self { len: 0 }
     }
 
-    // Sends bytes.
+    // Sends bytes. A text that has room is copied whole, so for a fixed word the number of bytes is known when it is compiled.
     pub fn bytes(self, buf: &mut [u8], text: &[u8]) -> Self
         ensures { λ r. ⌜ output (now (buf .exit)) (r .len) ≡ emits (output (now (buf .entry)) (self .len)) (now (text .entry)) ⌝ }
     {
         let at = self.len;
-        store(buf, at, text);
+        let left = room(buf.len(), at);
+        if text.len() <= left {
+            copy(buf, at, text, text.len());
+            return Self {
+                len: at + text.len(),
+            };
+        }
+        copy(buf, at, text, left);
         Self {
             len: sum(at, text.len()),
         }
@@ -310,9 +351,13 @@ impl Out {
     pub fn decimal(self, buf: &mut [u8], lo: u64, hi: u64) -> Self
         ensures { λ r. ⌜ output (now (buf .exit)) (r .len) ≡ emits (output (now (buf .entry)) (self .len)) (decimalOf (lo + 2 ^ 64 * hi)) ⌝ }
     {
-        let d = digits_of(lo, hi);
-        let all = d.bytes;
+        let keep = self.len < buf.len();
+        let d = digits_of(lo, hi, keep);
         let start = d.start;
+        if !keep {
+            return self.counted(45 - start);
+        }
+        let all = d.bytes;
         self.bytes(buf, &all[start..])
     }
 

@@ -122,7 +122,7 @@ pub text-of : {A : Type 0} (text : A → List ℕ) (x : Res A) (o o' : Output) (
 text-of text x o o' r w = sends-map itself text x o o' r w
 
 module _ (enc : Encoder) (s : List ℕ) (at : ℕ) (v : Walked) (t : List ℕ) (z : ℕ) where
-  item-ends : (i : Section) (q : ℕ) (f : Fault) → v ≡ itemWalk i s at → v ≡ walked-is.Next q f → itemText enc i s at ≡ got t z → q ≡ z
+  item-ends : (i : Section) (q : ℕ) (f : Fault) → v ≡ itemWalk i s at → v ≡ walked-is.Next f q → itemText enc i s at ≡ got t z → q ≡ z
   unfolding itemWalk itemText
   item-ends Comments q f e e' g = made-ends textFault write-comment (comment s at) v e t z g q f e'
   item-ends Datatypes q f e e' g = made-ends datatypeFault (write-datatype-decl enc) (datatype s at) v e t z g q f e'
@@ -139,7 +139,7 @@ module _ (enc : Encoder) (s : List ℕ) (at : ℕ) (v : Walked) (t : List ℕ) (
   no-item KVars k e e' g = made-none kvarFault (write-kvar-decl enc) (kvar s at) v e t z g k e'
 
 module _ (enc : Encoder) (i : Section) (s : List ℕ) (at : ℕ) (v : Walked) (e : v ≡ itemWalk i s at) where
-  pub item-out : (p p' : Progress) (xs ls : List ℕ) (q : ℕ) (f : Fault) → has (p .range) (p .seen) ≡ false → v ≡ walked-is.Next q f → p' ≡ passed p
+  pub item-out : (p p' : Progress) (xs ls : List ℕ) (q : ℕ) (f : Fault) → has (p .range) (p .seen) ≡ false → v ≡ walked-is.Next f q → p' ≡ passed p
       → Puts alone (itemText enc i s at) (writing p xs ls) (writing p' xs ls) q
   unfolding Puts puts
   item-out p p' xs ls q f h e' u t z g = (item-ends enc s at v t z i q f e e' g, put-out p p' xs t ls h u)

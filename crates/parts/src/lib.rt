@@ -139,7 +139,7 @@ fn put_item(
         };
     }
     let walked = item_check::check_item(s, at, section);
-    let Walked::Next(q, _) = walked else {
+    let Walked::Next(_, q) = walked else {
         return Moved { at, progress: p };
     };
     Moved {

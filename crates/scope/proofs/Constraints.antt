@@ -116,7 +116,7 @@ module _ (s t : List ℕ) (l n at : ℕ) (c : Space s t at) (v : Walked) (u : Li
   under-stops j e' =
       (stops (each (predIn s t)) (underIn s t) (many [] _∷_ (decPred l) n s at) (λ ps p. bind (decConstraint l s p) (λ b q. got (record { preds = ps; body = b }) q)) v j (k .0) e', k .1)
 
-  module _ (p : ℕ) (f : Fault) (e' : v ≡ walked-is.Next p f) where
+  module _ (p : ℕ) (f : Fault) (e' : v ≡ walked-is.Next f p) where
     pub under-space : Space s u p
     under-space =
         let on = walked-on (each (predIn s t)) (many [] _∷_ (decPred l) n)
@@ -145,7 +145,7 @@ module _ (s t : List ℕ) (l at : ℕ) (c : Space s t at × (3 * length (entries
     pub for-all-unsorted : (j : ℕ) → v ≡ walked-is.Refused j → (v ≡ walked (constraintIn s t) (forAll l s at)) × Restored s t t
     for-all-unsorted j i = (i ∙ rw (named-at, refused-is (sortFault false) (decSort l s p) j (sym i ∙ k)), restored-all s t (c .0 .chained))
 
-    module _ (q : ℕ) (f : Fault) (i : v ≡ walked-is.Next q f) (m : Number) (d : number 2 s q ≡ numberOf m) where
+    module _ (q : ℕ) (f : Fault) (i : v ≡ walked-is.Next f q) (m : Number) (d : number 2 s q ≡ numberOf m) where
       pub for-all-uncounted : m ≡ number-is.Refused → (walked-is.Refused 2 ≡ walked (constraintIn s t) (forAll l s at)) × Restored s t t
       for-all-uncounted d' =
           let z = next-is (sortFault false) (decSort l s p) q f (sym i ∙ k) in
@@ -193,4 +193,4 @@ module _ (s t : List ℕ) (l at : ℕ) (c : Space s t at × (3 * length (entries
                     (bind y1 (λ b1 p2. got (record { preds = qs; body = b1 }) p2)))
                     ≡ walked (constraintIn s t) (bind y1 (λ b1 p2. got (Constraint.forAll (bytesOf s y) sort qs b1) p2))
                 then (refuse j1) = refl
-                then (got b1 p2) = ap (walked-is.Next p2) (rw b)
+                then (got b1 p2) = ap (λ (z : Fault). walked-is.Next z p2) (rw b)

@@ -197,7 +197,7 @@ module _ (s t : List ℕ) (l : ℕ) (b : Bool) (at : ℕ) (c : Space s t at) (v 
   app-stops j e' =
       (stops givenFault (exprIn s t) (given l b s at) (λ o p. (decExpr l ▹ λ h. counted Exprs.none Exprs.more (decExpr l) ▹ λ es. give (Expr.app h es o)) s p) v j e e', restored-all s t (c .chained))
 
-  module _ (p : ℕ) (f : Fault) (e' : v ≡ walked-is.Next p f) where
+  module _ (p : ℕ) (f : Fault) (e' : v ≡ walked-is.Next f p) where
     pub app-head-space : Space s t p
     app-head-space = space-on s t at p c (walked-on givenFault (given l b) (givens l b) s at v p f e e')
 
@@ -212,7 +212,7 @@ module _ (s t : List ℕ) (l : ℕ) (b : Bool) (at : ℕ) (c : Space s t at) (v 
       app-head-stops j u' =
           (onward v' (λ o. stops (exprIn s t) (exprIn s t) (decExpr l s p) (λ h q. (counted Exprs.none Exprs.more (decExpr l) ▹ λ es. give (Expr.app h es o)) s q) v' j (k .0) u'), k .1)
 
-      module _ (q : ℕ) (g : Fault) (u' : v' ≡ walked-is.Next q g) (m : Number) (i : number 2 s q ≡ numberOf m) where
+      module _ (q : ℕ) (g : Fault) (u' : v' ≡ walked-is.Next g q) (m : Number) (i : number 2 s q ≡ numberOf m) where
         pub app-count-stops : m ≡ number-is.Refused → (walked-is.Refused 2 ≡ walked (exprIn s t) (applied l b s at)) × Restored s t u
         app-count-stops i' = (
           onward (walked-is.Refused 2) (λ o. goes (exprIn s t) (exprIn s t) (decExpr l s p) (λ h q. (counted Exprs.none Exprs.more (decExpr l) ▹ λ es. give (Expr.app h es o)) s q) v' q g (walked-is.Refused 2) (k .0) u'
@@ -259,7 +259,7 @@ module _ (s t : List ℕ) (l at : ℕ) (c : Space s t at × (3 * length (entries
       pub let-first-stops : (j : ℕ) → v ≡ walked-is.Refused j → (v ≡ walked (exprIn s t) (letForm l s at)) × Restored s t u
       let-first-stops j i = (from-name v (stops (exprIn s t) (exprIn s t) (decExpr l s p) (λ a q. (decExpr l ▹ λ b. give (Expr.letIn (bytesOf s y) a b)) s q) v j (k .0) i), k .1)
 
-      module _ (q : ℕ) (f : Fault) (i : v ≡ walked-is.Next q f) (u2 : List ℕ) (w : Pushed s u at 6 u2) where
+      module _ (q : ℕ) (f : Fault) (i : v ≡ walked-is.Next f q) (u2 : List ℕ) (w : Pushed s u at 6 u2) where
         pushed-one : (entries s u2 ≡ entries s u ++ boundAll (bytesOf s y ∷ [])) × Space s u2 p
         pushed-one =
             let r = wide-names .covered s at (bytesOf s y) p named-at in
@@ -293,7 +293,7 @@ module _ (s t : List ℕ) (l n at : ℕ) (c : Space s t at) (v : Walked) (e : v 
   quantifier-stops j e' =
       (stops (each binderFault) (exprIn s t) (many [] _∷_ (binder l) n s at) (λ bs p. (decExpr l ▹ λ b. give (Expr.quantifier Forall bs b)) s p) v j e e', restored-all s t (c .chained))
 
-  module _ (p : ℕ) (f : Fault) (e' : v ≡ walked-is.Next p f) (u : List ℕ) (r : ℕ) (w : Collects (rowSymbols (named Bound)) (many [] _∷_ (binder l) n s at) s t u r) where
+  module _ (p : ℕ) (f : Fault) (e' : v ≡ walked-is.Next f p) (u : List ℕ) (r : ℕ) (w : Collects (rowSymbols (named Bound)) (many [] _∷_ (binder l) n s at) s t u r) where
     -- what it binds
     module _ (bs : List Binder) (g : many [] _∷_ (binder l) n s at ≡ got bs p) where
       many-are : length bs ≡ n

@@ -66,7 +66,7 @@ module _ (s t : List ℕ) (at inputs : ℕ) (c : Space s t at × (3 * length (en
       body-args-stop j i' =
           (from-count v (stops (each nameFault) (bodyIn s t) (many [] _∷_ name n s p) (λ xs q. bind (decExpr deepest s q) (λ d r. got (record { args = xs; expr = d }) r)) v j i i'), restored-all s t (c .0 .chained))
 
-      module _ (q : ℕ) (f : Fault) (i' : v ≡ walked-is.Next q f) (u : List ℕ) (r : ℕ) (w : Collects (rowSymbols (alone Bound)) (many [] _∷_ name n s p) s t u r) where
+      module _ (q : ℕ) (f : Fault) (i' : v ≡ walked-is.Next f q) (u : List ℕ) (r : ℕ) (w : Collects (rowSymbols (alone Bound)) (many [] _∷_ name n s p) s t u r) where
         module _ (xs : List (List ℕ)) (g : many [] _∷_ name n s p ≡ got xs q) where
           roomy : 3 * (length (entries s t) + n) ≤ q
           roomy =
@@ -130,7 +130,7 @@ module _ (s t : List ℕ) (at : ℕ) (c : Space s t at) (m : Number) (e : number
     pub signature-inputs-stop : (j : ℕ) → v ≡ walked-is.Refused j → (v ≡ walked (perhapsIn s t) (signatureForm s at)) × Restored s t t
     signature-inputs-stop j i' = (from-count' v (stops sortsFault (perhapsIn s t) (many Sorts.none Sorts.more (decSort deepest) n s p) from-inputs v j i i'), restored-all s t (c .chained))
 
-    module _ (q : ℕ) (f : Fault) (i' : v ≡ walked-is.Next q f) (v2 : Walked) (k : v2 ≡ walked (sortFault false) (decSort deepest s q)) where
+    module _ (q : ℕ) (f : Fault) (i' : v ≡ walked-is.Next f q) (v2 : Walked) (k : v2 ≡ walked (sortFault false) (decSort deepest s q)) where
       by-inputs : (w : Walked) → ((ins : Sorts) → sortsNumber ins ≡ n → w ≡ walked (perhapsIn s t) (from-inputs ins q)) → w ≡ walked (perhapsIn s t) (signatureForm s at)
       by-inputs w h =
           from-count' w (goes sortsFault (perhapsIn s t) (many Sorts.none Sorts.more (decSort deepest) n s p) from-inputs v q f w i i'
@@ -141,7 +141,7 @@ module _ (s t : List ℕ) (at : ℕ) (c : Space s t at) (m : Number) (e : number
       signature-output-stop j k' =
           (by-inputs v2 (λ ins z. stops (sortFault false) (perhapsIn s t) (decSort deepest s q) (λ out r. (flag ▹ λ b. perhapsBody b (sortsNumber ins)) s r) v2 j k k'), restored-all s t (c .chained))
 
-      module _ (r : ℕ) (f2 : Fault) (k' : v2 ≡ walked-is.Next r f2) (l : FlagRead) (d : flag s r ≡ flagOf l) where
+      module _ (r : ℕ) (f2 : Fault) (k' : v2 ≡ walked-is.Next f2 r) (l : FlagRead) (d : flag s r ≡ flagOf l) where
         by-output : (w : Walked) → ((ins : Sorts) → sortsNumber ins ≡ n → w ≡ walked (perhapsIn s t) ((flag ▹ λ b. perhapsBody b (sortsNumber ins)) s r)) → w ≡ walked (perhapsIn s t) (signatureForm s at)
         unfolding from-inputs
         by-output w h =
@@ -151,9 +151,9 @@ module _ (s t : List ℕ) (at : ℕ) (c : Space s t at) (m : Number) (e : number
         signature-unflagged d' = (by-output (walked-is.Refused 2) (λ ins z. rw (d, d')), restored-all s t (c .chained))
 
         module _ (b : Bool) (t2 : ℕ) (d' : l ≡ flag-is.Flag b t2) where
-          pub signature-none : b ≡ false → (walked-is.Next t2 Sound ≡ walked (perhapsIn s t) (signatureForm s at)) × Restored s t t
+          pub signature-none : b ≡ false → (walked-is.Next Sound t2 ≡ walked (perhapsIn s t) (signatureForm s at)) × Restored s t t
           unfolding bodyScope
-          signature-none h = (by-output (walked-is.Next t2 Sound) (λ ins z. rw (d, d', h)), restored-all s t (c .chained))
+          signature-none h = (by-output (walked-is.Next Sound t2) (λ ins z. rw (d, d', h)), restored-all s t (c .chained))
 
           pub signature-space : Space s t t2 × (3 * length (entries s t) + n ≤ t2)
           signature-space =

@@ -28,7 +28,7 @@ use Rattle.item_check.proofs.Walks.{many-size}
 use Rattle.task_check.specs.declared.Walked.{Walked}
 use Rattle.task_check.specs.declared.Walked.the-variants as walked-is
 use Rattle.task_check.specs.Walk.{walked, after}
-use Rattle.task_check.proofs.Rows.{Fold, after-sound}
+use Rattle.task_check.proofs.Rows.{Fold}
 use Rattle.task_check.proofs.Exprs.{lasts}
 use Rattle.names.specs.declared.Found.{Found}
 use Rattle.names.specs.declared.Found.the-variants.{Entry, Nothing}
@@ -174,15 +174,15 @@ module _ (s t : List ℕ) (l at : ℕ) (node : PredNode) (z : l ≡ 0 → ⊥) (
       (rw (pred-at l s at node (pred-node.KVar x n p) z h e) (m ∙ ap (after f) (k .0) ∙ go (many Exprs.none Exprs.more (decExpr (l - 1)) n s p) refl), k .1)
     where
       go : (y : Res Exprs) → many Exprs.none Exprs.more (decExpr (l - 1)) n s p ≡ y → after f (walked (exprsIn s t) y) ≡ walked (predIn s t) (bind y (λ es q. got (Pred.kvar (bytesOf s x) es) q))
-      go (got es q) g = let j = many-size Exprs.none Exprs.more exprsNumber refl (λ a r. refl) (decExpr (l - 1)) s n p es q g in ap (walked-is.Next q) (rw (i, ← j))
+      go (got es q) g = let j = many-size Exprs.none Exprs.more exprsNumber refl (λ a r. refl) (decExpr (l - 1)) s n p es q g in ap (λ (z : Fault). walked-is.Next z q) (rw (i, ← j))
       go (refuse j) g = refl
 
-  pub pred-expr : (p : ℕ) (w : Walked) (u : List ℕ) → node ≡ pred-node.Expr p → (w ≡ walked (exprIn s t) (decExpr (l - 1) s p)) × Restored s t u
+  pub pred-expr : (p : ℕ) (v w : Walked) (u : List ℕ) → node ≡ pred-node.Expr p → (v ≡ walked (exprIn s t) (decExpr (l - 1) s p)) × Restored s t u → w ≡ after Sound v
       → (w ≡ walked (predIn s t) (decPred l s at)) × Restored s t u
   unfolding predOf predScope globalsIn
-  pred-expr p w u e k = (
+  pred-expr p v w u e k m = (
     rw (pred-at l s at node (pred-node.Expr p) z h e)
-        (k .0 ∙ sym (after-sound (walked (exprIn s t) (decExpr (l - 1) s p))) ∙ lasts (exprIn s t) (predIn s t) (decExpr (l - 1) s p) Pred.expr Sound (λ a. sym (sound-lower (exprIn s t a)))),
+        (m ∙ ap (after Sound) (k .0) ∙ lasts (exprIn s t) (predIn s t) (decExpr (l - 1) s p) Pred.expr Sound (λ a. sym (sound-lower (exprIn s t a)))),
     k .1,
   )
 

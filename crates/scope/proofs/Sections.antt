@@ -261,7 +261,7 @@ module _ (file : List ℕ) (at end : ℕ) (t : List ℕ) where
     short-end : length (take end file) ≡ end
     short-end = let m = length-take end file in omega arith
 
-    module _ (q : ℕ) (g f' : Fault) (i : v ≡ walked-is.Next q g) (u2 : List ℕ) (w : Pushed file u1 p 5 u2) (m : f' ≡ lower f g) where
+    module _ (q : ℕ) (g f' : Fault) (i : v ≡ walked-is.Next g q) (u2 : List ℕ) (w : Pushed file u1 p 5 u2) (m : f' ≡ lower f g) where
       ran : Runs see (soundFunction (take end file) p) (seen f (entries file u)) (seen f' (entries file u2)) q
       unfolding see seen ctorsIn varsIn
       ran a p1 e =

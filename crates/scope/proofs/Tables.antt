@@ -39,7 +39,7 @@ space-kept s t u at x r =
 
 -- where a walk ended
 pub walked-on : {A : Type 0} {size : A → ℕ} (one : A → Fault) (d : Decoder A) → Covers size d → (s : List ℕ) (at : ℕ) (v : Walked) (q : ℕ) (f : Fault) → v ≡ walked one (d s at)
-    → v ≡ walked-is.Next q f → at ≤ q
+    → v ≡ walked-is.Next f q → at ≤ q
 walked-on one d c s at v q f e e' = let y = next-is one (d s at) q f (sym e' ∙ e) in forward d c s at (y .value) q (y .is)
 
 -- NAMES
@@ -117,7 +117,7 @@ module _ {A R : Type 0} {end : R} {more : A → R → R} {size : A → ℕ} (one
     back : Restored s t u'
     back = restored-both s t u u' (a .restored) (e .1)
 
-    pub along-more : (q : ℕ) (g f' : Fault) → v ≡ walked-is.Next q g → f' ≡ lower f g → Along u' (left - 1) q f'
+    pub along-more : (q : ℕ) (g f' : Fault) → v ≡ walked-is.Next g q → f' ≡ lower f g → Along u' (left - 1) q f'
     along-more q g f' e' k =
         record {
           restored = back;
@@ -128,7 +128,7 @@ module _ {A R : Type 0} {end : R} {more : A → R → R} {size : A → ℕ} (one
     pub along-stops : (k : ℕ) → v ≡ walked-is.Refused k → (v ≡ walked (all t) (many end more d n s at)) × Restored s t u'
     along-stops k e' = (row-stops (fold t) d s left p f (walked (all t) (many end more d n s at)) v k h judged e' (a .owes), back)
 
-  pub along-ends : (u : List ℕ) (left p : ℕ) (f : Fault) → Along u left p f → left ≤ 0 → (walked-is.Next p f ≡ walked (all t) (many end more d n s at)) × Restored s t u
+  pub along-ends : (u : List ℕ) (left p : ℕ) (f : Fault) → Along u left p f → left ≤ 0 → (walked-is.Next f p ≡ walked (all t) (many end more d n s at)) × Restored s t u
   along-ends u left p f a h = (row-done (fold t) d s left p f (walked (all t) (many end more d n s at)) h (a .owes), a .restored)
 
 -- NAMES IN A ROW

@@ -139,19 +139,19 @@ module _ (file : List ℕ) (b : Bounds) (s : Sectioned file b) (t0 t1 : List ℕ
       vars-are = ap (namesOf 2 6) entries-are ∙ ranges .vars (s .task)
 
       module _ (w : Walked) (t4 : List ℕ) (k : (w ≡ walked (constraintIn file t3) (decConstraint deepest file (b .constraint))) × Restored file t3 t4) where
-        judged-constraint : w ≡ walked-is.Next (bound file 6) (constraintNames (globalsOf (s .task)) (inConstraint (s .task)) (s .task .constraint))
+        judged-constraint : w ≡ walked-is.Next (constraintNames (globalsOf (s .task)) (inConstraint (s .task)) (s .task .constraint)) (bound file 6)
         judged-constraint =
             let u : b .constraint ≡ bound file 5 = ap (λ (x : Bounds). x .constraint) (s .bounds) in
             let q = in-whole (decConstraint deepest) (each-covers .constraints deepest) file (bound file 6) (bound file 5) (s .task .constraint) (bound file 6) (open-task .constraint) in
             k .0 ∙ rw (u, q, globals-are, vars-are)
 
         pub names-read : (j : ℕ) → w ≡ walked-is.Refused j → NamesJudged file r1 t4
-        names-read j e = let z : walked-is.Refused j ≡ walked-is.Next (bound file 6) (constraintNames (globalsOf (s .task)) (inConstraint (s .task)) (s .task .constraint)) = sym e ∙ judged-constraint in clash (cc)
+        names-read j e = let z : walked-is.Refused j ≡ walked-is.Next (constraintNames (globalsOf (s .task)) (inConstraint (s .task)) (s .task .constraint)) (bound file 6) = sym e ∙ judged-constraint in clash (cc)
 
-        pub names-judged : (q : ℕ) (f r : Fault) → w ≡ walked-is.Next q f → r ≡ lower r1 f → NamesJudged file r t4
+        pub names-judged : (q : ℕ) (f r : Fault) → w ≡ walked-is.Next f q → r ≡ lower r1 f → NamesJudged file r t4
         unfolding namesFault
         names-judged q f r e m =
-            let z : walked-is.Next q f ≡ walked-is.Next (bound file 6) (constraintNames (globalsOf (s .task)) (inConstraint (s .task)) (s .task .constraint)) = sym e ∙ judged-constraint in
+            let z : walked-is.Next f q ≡ walked-is.Next (constraintNames (globalsOf (s .task)) (inConstraint (s .task)) (s .task .constraint)) (bound file 6) = sym e ∙ judged-constraint in
             let y : f ≡ constraintNames (globalsOf (s .task)) (inConstraint (s .task)) (s .task .constraint) = cc in
             let x : r ≡ namesFault (s .task) = m ∙ ap (λ (g' : Fault). lower g' f) in-bodies ∙ ap (lower (functionsScope (declaredBy true (s .task .datatypes)) (everywhere (s .task)) (s .task .functions))) y in
             record {

@@ -138,14 +138,14 @@ fn scope_exprs(s: &[u8], at: usize, n: u64, levels: usize, table: &mut [u16]) ->
     let mut fault = Fault::Sound;
     while 0 < left {
         let one = scope_expr(s, p, levels, table);
-        let Walked::Next(q, f) = one else {
+        let Walked::Next(f, q) = one else {
             return one;
         };
         p = q;
         fault = task_check::lower(fault, f);
         left -= 1;
     }
-    Walked::Next(p, fault)
+    Walked::Next(fault, p)
 }
 
 // An application behind its flag: the output sort, the head, and counted arguments.
@@ -154,11 +154,11 @@ fn scope_app(s: &[u8], at: usize, has: bool, levels: usize, table: &mut [u16]) -
     ensures { λ r. ⌜ (r ≡ walked (exprIn (now (s .entry)) (now (table .entry))) (applied levels has (now (s .entry)) at)) × Restored (now (s .entry)) (now (table .entry)) (now (table .exit)) ⌝ }
 {
     let output = task_check::check_given(s, has, at, levels);
-    let Walked::Next(p, _) = output else {
+    let Walked::Next(_, p) = output else {
         return output;
     };
     let head = scope_expr(s, p, levels, table);
-    let Walked::Next(q, f) = head else {
+    let Walked::Next(f, q) = head else {
         return head;
     };
     let count = task::number_at(s, q, 2);
@@ -178,7 +178,7 @@ fn scope_let(s: &[u8], at: usize, levels: usize, table: &mut [u16]) -> Walked
         return Walked::Refused(2);
     };
     let value = scope_expr(s, p, levels, table);
-    let Walked::Next(q, f) = value else {
+    let Walked::Next(f, q) = value else {
         return value;
     };
     names::push(s, table, at, Kind::Bound);
@@ -193,7 +193,7 @@ fn scope_quantifier(s: &[u8], at: usize, n: u64, levels: usize, table: &mut [u16
     ensures { λ r. ⌜ (r ≡ walked (exprIn (now (s .entry)) (now (table .entry))) (quantified levels n (now (s .entry)) at)) × Restored (now (s .entry)) (now (table .entry)) (now (table .exit)) ⌝ }
 {
     let binders = task_check::check_binders(s, at, n, levels);
-    let Walked::Next(p, _) = binders else {
+    let Walked::Next(_, p) = binders else {
         return binders;
     };
     declared::push_binders(s, at, n, levels, Kind::Bound, table);
@@ -247,7 +247,7 @@ pub fn scope_pred(s: &[u8], at: usize, levels: usize, table: &mut [u16]) -> Walk
             let fault = arguments_fault(s, x, n, table);
             task_check::after(fault, scope_exprs(s, p, n, below, table))
         }
-        PredNode::Expr(p) => scope_expr(s, p, below, table),
+        PredNode::Expr(p) => task_check::after(Fault::Sound, scope_expr(s, p, below, table)),
         PredNode::Refused => Walked::Refused(2),
     }
 }
@@ -262,14 +262,14 @@ pub fn scope_preds(s: &[u8], at: usize, n: u64, levels: usize, table: &mut [u16]
     let mut fault = Fault::Sound;
     while 0 < left {
         let one = scope_pred(s, p, levels, table);
-        let Walked::Next(q, f) = one else {
+        let Walked::Next(f, q) = one else {
             return one;
         };
         p = q;
         fault = task_check::lower(fault, f);
         left -= 1;
     }
-    Walked::Next(p, fault)
+    Walked::Next(fault, p)
 }
 
 // The constraint at a position: where it ends, and the fault of its names.
@@ -300,14 +300,14 @@ fn scope_members(s: &[u8], at: usize, n: u64, levels: usize, table: &mut [u16]) 
     let mut fault = Fault::Sound;
     while 0 < left {
         let one = scope_constraint(s, p, levels, table);
-        let Walked::Next(q, f) = one else {
+        let Walked::Next(f, q) = one else {
             return one;
         };
         p = q;
         fault = task_check::lower(fault, f);
         left -= 1;
     }
-    Walked::Next(p, fault)
+    Walked::Next(fault, p)
 }
 
 // A ForAll behind its code: its name is known in its predicates and its body.
@@ -320,7 +320,7 @@ fn scope_for_all(s: &[u8], at: usize, levels: usize, table: &mut [u16]) -> Walke
         return Walked::Refused(2);
     };
     let sort = task_check::check_sort(s, p, levels, false);
-    let Walked::Next(q, _) = sort else {
+    let Walked::Next(_, q) = sort else {
         return sort;
     };
     let count = task::number_at(s, q, 2);
@@ -340,7 +340,7 @@ fn scope_under(s: &[u8], at: usize, n: u64, levels: usize, table: &mut [u16]) ->
     ensures { λ r. ⌜ (r ≡ walked (underIn (now (s .entry)) (now (table .entry))) (underForm levels n (now (s .entry)) at)) × Restored (now (s .entry)) (now (table .entry)) (now (table .exit)) ⌝ }
 {
     let preds = scope_preds(s, at, n, levels, table);
-    let Walked::Next(p, f) = preds else {
+    let Walked::Next(f, p) = preds else {
         return preds;
     };
     task_check::after(f, scope_constraint(s, p, levels, table))
@@ -359,7 +359,7 @@ fn scope_body(s: &[u8], at: usize, inputs: u64, table: &mut [u16]) -> Walked
         return Walked::Refused(6);
     }
     let names = item_check::check_names(s, p, n);
-    let Walked::Next(q, _) = names else {
+    let Walked::Next(_, q) = names else {
         return names;
     };
     declared::push_names(s, p, n, Kind::Bound, table);
@@ -378,11 +378,11 @@ fn scope_signature(s: &[u8], at: usize, table: &mut [u16]) -> Walked
         return Walked::Refused(2);
     };
     let inputs = task_check::check_sorts(s, p, n, 256);
-    let Walked::Next(q, _) = inputs else {
+    let Walked::Next(_, q) = inputs else {
         return inputs;
     };
     let output = task_check::check_sort(s, q, 256, false);
-    let Walked::Next(r, _) = output else {
+    let Walked::Next(_, r) = output else {
         return output;
     };
     let flag = task::read_flag(s, r);
@@ -392,7 +392,7 @@ fn scope_signature(s: &[u8], at: usize, table: &mut [u16]) -> Walked
     if has {
         return scope_body(s, t, n, table);
     }
-    Walked::Next(t, Fault::Sound)
+    Walked::Next(Fault::Sound, t)
 }
 
 // A function: where it ends, and the fault of the names in its body.
@@ -420,7 +420,7 @@ fn scope_functions(file: &[u8], at: usize, end: usize, table: &mut [u16]) -> Fau
     let mut fault = Fault::Sound;
     while p < end {
         let one = scope_function(file, p, table);
-        let Walked::Next(q, f) = one else {
+        let Walked::Next(f, q) = one else {
             return fault;
         };
         names::push(file, table, p, Kind::Function);
@@ -440,7 +440,7 @@ pub fn judge_names(file: &[u8], b: Bounds, table: &mut [u16]) -> Fault
     let bodies = scope_functions(file, b.functions, b.kvars, table);
     declared::declare_kvars(file, b, table);
     let walked = scope_constraint(file, b.constraint, 256, table);
-    let Walked::Next(_, fault) = walked else {
+    let Walked::Next(fault, _) = walked else {
         // the constraint was read before
         return bodies;
     };

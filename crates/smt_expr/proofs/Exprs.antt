@@ -193,14 +193,14 @@ module _ (enc : Encoder) (s : List ℕ) (l : ℕ) (has : Bool) (p : ℕ) (o : Ou
   unfolding exprOf
   no-sort k o' r e = rw (refused-is givenFault (given l has s p) k (sym e ∙ ev)) (sends-refused (write-expr enc) o o' r k)
 
-  module _ (q : ℕ) (f : Fault) (w : Walked) (ev' : v ≡ walked-is.Next q f) (ew : w ≡ walked (exprFault has) (decExpr l s q)) where
+  module _ (q : ℕ) (f : Fault) (w : Walked) (ev' : v ≡ walked-is.Next f q) (ew : w ≡ walked (exprFault has) (decExpr l s q)) where
     pub no-head : (k : ℕ) (o' : Output) (r : ℕ) → w ≡ walked-is.Refused k → Sends (write-expr enc) (exprOf s l (decExpr l) (expr-node.App has p)) o o' r
     unfolding exprOf
     no-head k o' r e =
         let y = next-is givenFault (given l has s p) q f (sym ev' ∙ ev) in
         rw (y .is, refused-is (exprFault has) (decExpr l s q) k (sym e ∙ ew)) (sends-refused (write-expr enc) o o' r k)
 
-    module _ (t : ℕ) (g : Fault) (c : Number) (ew' : w ≡ walked-is.Next t g) (ec : number 2 s t ≡ numberOf c) where
+    module _ (t : ℕ) (g : Fault) (c : Number) (ew' : w ≡ walked-is.Next g t) (ec : number 2 s t ≡ numberOf c) where
       pub no-count : (o' : Output) (r : ℕ) → c ≡ number-is.Refused → Sends (write-expr enc) (exprOf s l (decExpr l) (expr-node.App has p)) o o' r
       unfolding exprOf
       no-count o' r e =

@@ -408,11 +408,11 @@ fn write_app(
     ensures { λ r. ⌜ Sends (write-expr (encoderIn (now (s .entry)) (now (enc .entry)))) (exprOf (now (s .entry)) levels (decExpr levels) (ExprNode.App has at)) (output (now (buf .entry)) (out .len)) (output (now (buf .exit)) (r .out .len)) (r .at) ⌝ }
 {
     let sort = task_check::check_given(s, has, at, levels);
-    let Walked::Next(q, _) = sort else {
+    let Walked::Next(_, q) = sort else {
         return Sent { at, out };
     };
     let skipped = task_check::check_expr(s, q, levels, has);
-    let Walked::Next(p, _) = skipped else {
+    let Walked::Next(_, p) = skipped else {
         return Sent { at, out };
     };
     let count = task::number_at(s, p, 2);

@@ -205,7 +205,7 @@ module _ (enc : Encoder) (s : List ℕ) (x : List ℕ) (n at from inner : ℕ) (
         let g : refuse k ≡ got f t = rw (h ∙ ap numberOf e, refused-is (each nameFault) (many [] _∷_ name m s p) k (sym e' ∙ hv)) at ef in
         got-refuse (sym g)
 
-    pub body-sends : (q : ℕ) (f : Fault) (o1 o2 o3 o4 o5 : Output) (r : ℕ) → v ≡ walked-is.Next q f → o1 ≡ emits o (bytes "(define-fun ") → o2 ≡ emits o1 (write-name x)
+    pub body-sends : (q : ℕ) (f : Fault) (o1 o2 o3 o4 o5 : Output) (r : ℕ) → v ≡ walked-is.Next f q → o1 ≡ emits o (bytes "(define-fun ") → o2 ≡ emits o1 (write-name x)
         → o3 ≡ emit o2 32 → ZipSends sexp-list enc (many [] _∷_ name m s p) (many Sorts.none Sorts.more (decSort deepest) n s at) o3 o4
         → DefinedSends enc (decSort deepest s from) (decExpr deepest s q) o4 o5 r
         → BodySends enc x (many Sorts.none Sorts.more (decSort deepest) n s at) (decSort deepest s from) (body true s inner) o o5 r
@@ -226,13 +226,13 @@ module _ (enc : Encoder) (s : List ℕ) (x : List ℕ) (n at : ℕ) (o : Output)
   no-inputs k o' r e =
       rw (refused-is sortsFault (many Sorts.none Sorts.more (decSort deepest) n s at) k (sym e ∙ hv)) (sends-refused (write-fun-def enc) o o' r k)
 
-  module _ (from : ℕ) (f : Fault) (ev : v ≡ walked-is.Next from f) (w : Walked) (hw : w ≡ walked (sortFault false) (decSort deepest s from)) where
+  module _ (from : ℕ) (f : Fault) (ev : v ≡ walked-is.Next f from) (w : Walked) (hw : w ≡ walked (sortFault false) (decSort deepest s from)) where
     pub no-output : (k : ℕ) (o' : Output) (r : ℕ) → w ≡ walked-is.Refused k → Sends (write-fun-def enc) (signed x 0 n s at) o o' r
     no-output k o' r e =
         let y = next-is sortsFault (many Sorts.none Sorts.more (decSort deepest) n s at) from f (sym ev ∙ hv) in
         rw (y .is, refused-is (sortFault false) (decSort deepest s from) k (sym e ∙ hw)) (sends-refused (write-fun-def enc) o o' r k)
 
-    module _ (p : ℕ) (g : Fault) (ew : w ≡ walked-is.Next p g) (c : FlagRead) (hc : flag s p ≡ flagOf c) where
+    module _ (p : ℕ) (g : Fault) (ew : w ≡ walked-is.Next g p) (c : FlagRead) (hc : flag s p ≡ flagOf c) where
       pub no-flag : (o' : Output) (r : ℕ) → c ≡ flag-is.Refused → Sends (write-fun-def enc) (signed x 0 n s at) o o' r
       no-flag o' r e =
           let y = next-is sortsFault (many Sorts.none Sorts.more (decSort deepest) n s at) from f (sym ev ∙ hv) in

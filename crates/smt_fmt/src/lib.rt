@@ -386,7 +386,7 @@ fn write_definition(
         return inner;
     };
     let names = item_check::check_names(s, p, m);
-    let Walked::Next(q, _) = names else {
+    let Walked::Next(_, q) = names else {
         return inner;
     };
     let opened = out.bytes(buf, b"(define-fun ");
@@ -428,11 +428,11 @@ fn write_function(
     ensures { λ r. ⌜ Sends (write-fun-def (encoderIn (now (s .entry)) (now (enc .entry)))) (signed (bytesOf (now (s .entry)) x) 0 n (now (s .entry)) at) (output (now (buf .entry)) (out .len)) (output (now (buf .exit)) (r .out .len)) (r .at) ⌝ }
 {
     let inputs = task_check::check_sorts(s, at, n, 256);
-    let Walked::Next(from, _) = inputs else {
+    let Walked::Next(_, from) = inputs else {
         return Sent { at, out };
     };
     let output = task_check::check_sort(s, from, 256, false);
-    let Walked::Next(p, _) = output else {
+    let Walked::Next(_, p) = output else {
         return Sent { at, out };
     };
     let flag = task::read_flag(s, p);

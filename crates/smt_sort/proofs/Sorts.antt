@@ -124,7 +124,7 @@ module _ (s enc : List ℕ) (l : ℕ) (x : Span) (n p : ℕ) (o : Output) (t : B
       made-sends (encoderIn s enc) s l p o (SortCtor.named (bytesOf s x)) (sort-node.Data x n p) n o' r (opaque-is ∙ ap not u) refl w
 
   pub opaque-sends : (v : Walked) (q : ℕ) (f : Fault) (o' : Output) (r : ℕ) → t ≡ false
-      → v ≡ walked sortsFault (many Sorts.none Sorts.more (decSort l) n s p) → v ≡ walked-is.Next q f → (r ≡ q) × (o' ≡ emits o (bytes "Int"))
+      → v ≡ walked sortsFault (many Sorts.none Sorts.more (decSort l) n s p) → v ≡ walked-is.Next f q → (r ≡ q) × (o' ≡ emits o (bytes "Int"))
       → Sends (write-sort (encoderIn s enc)) (sortOf s (decSort l) (sort-node.Data x n p)) o o' r
   unfolding sortOf
   opaque-sends v q f o' r u e1 e2 w =

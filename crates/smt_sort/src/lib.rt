@@ -191,7 +191,7 @@ fn write_data(
         return write_applied(s, SortCtor::Data(x), n, at, levels, enc, buf, out);
     }
     let sorts = task_check::check_sorts(s, at, n, levels);
-    let Walked::Next(p, _) = sorts else {
+    let Walked::Next(_, p) = sorts else {
         return Sent { at, out };
     };
     smt_word::write_word(b"Int", p, buf, out)

@@ -1,7 +1,7 @@
--- A table's rule, proved once over the whole table.
+-- A table's rule, proved once over the whole table, and what the last arm of a match tells.
 use mathlib.Core.Path.{_≡_, refl, sym, ap, _∙_, subst⁻¹}
 use mathlib.Core.Bool.{Bool, true, false, _&&_}
-use Prim.Native.Nat.{ℕ, zero, suc, _+_, _<_}
+use Prim.Native.Nat.{ℕ, zero, suc, _+_, _<_, _≤_}
 use native.Mathlib.Nat.{add-zero, zero-add, add-suc, suc-add, le-of-suc-le-suc, not-suc-le-zero}
 use native.Mathlib.Omega.{arith}
 use lib.Dec.{T, eqb, eqb→eq}
@@ -32,3 +32,12 @@ value-from f i (suc n) (suc k) h = value-from f (suc i) n k (le-of-suc-le-suc h)
 
 pub value-at : (f : ℕ → ℕ) (n k : ℕ) → k < n → getD (values f 0 n) k 0 ≡ f k
 value-at f n k h = value-from f 0 n k h ∙ ap f (zero-add k)
+
+-- what the last arm of a match over the numbers from 0 tells: x is none of the k before it
+abbrev pub NoneOf : ℕ → ℕ → Type 0
+NoneOf zero x = Unit
+NoneOf (suc k) x = NoneOf k x × (x ≡ k → ⊥)
+
+pub beyond : (k x : ℕ) → NoneOf k x → k ≤ x
+beyond zero x t = omega arith
+beyond (suc k) x t = let h = beyond k x (t .0) in let g = t .1 in omega arith

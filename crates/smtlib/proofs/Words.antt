@@ -13,9 +13,9 @@ use lib.ListN.{length, getD, take, drop, length-drop, length-append, drop-of-len
 use lib.Seq.{drop-cons, drop-drop, take-at, drop-at, take-suc, take-length}
 use borrow.Author.Tests.{eq-eqb, ne-eqb, eqb-false}
 use Rattle.smtlib.specs.Lexicon.{bytes, all, any, same, among, reservedWords, isReserved, digit, letter, symbolByte, isSimple, isSymbol}
-use Rattle.smtlib.specs.Table.{values, symbolPlace, symbolPlaces, rowOf, rowsTo, startOf, pieces, oneOf, inRow}
-use Rattle.smtlib.proofs.Bools.{never, true-holds, and-left, and-right, either, any-all, same→eq, among-each, all-append}
-use Rattle.smtlib.proofs.Entries.{at-below, value-at}
+use Rattle.smtlib.specs.Table.{symbolPlace, symbolPlaces, rowOf, pieces, oneOf, inRow}
+use Rattle.smtlib.proofs.Bools.{never, true-holds, and-right, either, any-all, same→eq, among-each, all-append}
+use Rattle.smtlib.proofs.Entries.{value-at}
 
 -- same_bytes
 
@@ -119,42 +119,11 @@ row-among w (s ∷ ss) = go (eqb (length (bytes s)) (length w)) refl (row-among 
         ih
         ∙ ap (λ (v : Bool). v || among w ss) (same-lengths w (bytes s) (λ l. eqb-false (length (bytes s)) (length w) e (sym l)))
 
--- the rule of the table: every start is within it, and the row of n bytes stands between two starts
-start-within : (n : ℕ) → n < 23 → startOf n ≤ 430
-unfolding startOf
-start-within n h = leb→le (startOf n) 430 (at-below 23 (λ k. leb (startOf k) 430) tt n h)
+-- the row of the words of w's length, which is n, is searched
+pub reserved-row : (n : ℕ) (w : List ℕ) (v : Bool) → length w ≡ n → v ≡ inRow w (rowOf n reservedWords) → v ≡ isReserved w
+reserved-row n w v l e = e ∙ ap (λ (k : ℕ). inRow w (rowOf k reservedWords)) (sym l) ∙ row-among w reservedWords
 
-row-placed : ℕ → Bool
-unfolding rowsTo
-row-placed n =
-    leb (startOf n) (startOf (n + 1))
-    && same (take (startOf (n + 1) - startOf n) (drop (startOf n) (rowsTo 22))) (rowOf n reservedWords)
-
-rows-placed : (n : ℕ) → n < 22 → T (row-placed n)
-unfolding row-placed startOf
-rows-placed = at-below 22 row-placed tt
-
--- row_start's table lists the starts
-pub starts : (n : ℕ) → n < 23 → getD (values startOf 0 23) n 0 ≡ startOf n
-starts n h = value-at startOf 23 n h
-
--- what the two calls of row_start give
-pub row-within : (n start end : ℕ) → n ≤ 21 → start ≡ startOf n → end ≡ startOf (n + 1) → (start ≤ end) × (end ≤ 430)
-unfolding row-placed
-row-within n start end h a b =
-    let l = leb→le (startOf n) (startOf (n + 1)) (and-left (leb (startOf n) (startOf (n + 1))) _ (rows-placed n (omega arith))) in
-    (omega arith, omega (arith, start-within (n + 1) (omega arith)))
-
-pub reserved-row : (w : List ℕ) (start end : ℕ) (v : Bool) → length w ≤ 21 → start ≡ startOf (length w) → end ≡ startOf (length w + 1)
-    → v ≡ inRow w (take (end - start) (drop start (rowsTo 22))) → v ≡ isReserved w
-unfolding row-placed
-reserved-row w start end v h a b e =
-    let n = length w in
-    let row = take (startOf (n + 1) - startOf n) (drop (startOf n) (rowsTo 22)) in
-    let t = and-right (leb (startOf n) (startOf (n + 1))) _ (rows-placed n (omega arith)) in
-    e ∙ rw (a, b, same→eq row (rowOf n reservedWords) t) (row-among w reservedWords)
-
-pub reserved-long : (w : List ℕ) → 21 < length w → false ≡ isReserved w
+pub reserved-long : (w : List ℕ) → 22 ≤ length w → false ≡ isReserved w
 unfolding reservedWords
 reserved-long w h =
     sym (never (isReserved w) (λ t.

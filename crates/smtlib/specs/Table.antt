@@ -6,7 +6,7 @@ use Prim.Native.Char.{code}
 use Prim.Native.String.{String}
 use lib.Dec.{eqb}
 use lib.ListN.{length}
-use Rattle.smtlib.specs.Lexicon.{bytes, same, reservedWords, symbolByte}
+use Rattle.smtlib.specs.Lexicon.{bytes, same, symbolByte}
 
 -- The values of f at n numbers from i on.
 abbrev pub values : (ℕ → ℕ) → ℕ → ℕ → List ℕ
@@ -24,17 +24,6 @@ symbolPlaces = values symbolPlace 0 128
 abbrev pub rowOf : ℕ → List String → List ℕ
 rowOf n [] = []
 rowOf n (s ∷ ss) = cond (eqb (length (bytes s)) n) (bytes s ++ (code " " ∷ [])) [] ++ rowOf n ss
-
--- The rows of the words shorter than n bytes, one behind the other.
-unfoldable pub rowsTo : ℕ → List ℕ
-unfolding reservedWords
-rowsTo zero = []
-rowsTo (suc n) = rowsTo n ++ rowOf n reservedWords
-
--- Where the row of the words of n bytes begins.
-unfoldable pub startOf : ℕ → ℕ
-unfolding rowsTo
-startOf n = length (rowsTo n)
 
 -- The pieces of n bytes in a row that has one byte behind each of them: k more bytes belong to the piece that begins with w.
 abbrev pub pieces : ℕ → ℕ → List ℕ → List ℕ → List (List ℕ)

@@ -3,42 +3,7 @@
 ghost use mathlib.Core.Path.{_≡_};
 ghost use Prim.Native.Nat.{_<_};
 ghost use Rattle.smtlib.specs.Lexicon.{all, same, digit, symbolByte, isSimple, isReserved, isSymbol};
-ghost use Rattle.smtlib.specs.Table.{symbolPlaces, startOf, inRow};
-
-// The reserved words by length, the shortest first, with a space behind each.
-const RESERVED: [u8; 430] =
-    *b"! _ as let par pop echo exit push match reset exists forall BINARY STRING assert \
-    DECIMAL NUMERAL get-info set-info check-sat get-model get-proof get-value set-logic \
-    define-fun get-option set-option HEXADECIMAL declare-fun define-sort declare-sort declare-const \
-    define-fun-rec get-assertions get-assignment get-unsat-core define-funs-rec \
-    declare-datatype reset-assertions declare-datatypes check-sat-assuming get-unsat-assumptions ";
-
-// Where in RESERVED the words of each length from 0 to 21 begin, and where the last ones end.
-const STARTS: [u16; 23] = [
-    0,
-    0,
-    4,
-    7,
-    19,
-    34,
-    46,
-    81,
-    97,
-    115,
-    165,
-    198,
-    234,
-    247,
-    261,
-    321,
-    337,
-    371,
-    389,
-    408,
-    408,
-    408,
-    430,
-];
+ghost use Rattle.smtlib.specs.Table.{symbolPlaces, inRow};
 
 // The bytes of symbols below 128, each at its own place, and a space at every other place.
 const SYMBOL_PLACES: [u8; 128] =
@@ -77,27 +42,34 @@ fn is_reserved(word: &[u8]) -> bool
     ensures { λ r. ⌜ r ≡ isReserved (now (word .entry)) ⌝ }
 {
     let n = word.len();
-    if 21 < n {
-        return false;
+    match n {
+        0 => false,
+        1 => in_row(b"! _ ", word),
+        2 => in_row(b"as ", word),
+        3 => in_row(b"let par pop ", word),
+        4 => in_row(b"echo exit push ", word),
+        5 => in_row(b"match reset ", word),
+        6 => in_row(b"exists forall BINARY STRING assert ", word),
+        7 => in_row(b"DECIMAL NUMERAL ", word),
+        8 => in_row(b"get-info set-info ", word),
+        9 => in_row(b"check-sat get-model get-proof get-value set-logic ", word),
+        10 => in_row(b"define-fun get-option set-option ", word),
+        11 => in_row(b"HEXADECIMAL declare-fun define-sort ", word),
+        12 => in_row(b"declare-sort ", word),
+        13 => in_row(b"declare-const ", word),
+        14 => in_row(
+            b"define-fun-rec get-assertions get-assignment get-unsat-core ",
+            word,
+        ),
+        15 => in_row(b"define-funs-rec ", word),
+        16 => in_row(b"declare-datatype reset-assertions ", word),
+        17 => in_row(b"declare-datatypes ", word),
+        18 => in_row(b"check-sat-assuming ", word),
+        19 => false,
+        20 => false,
+        21 => in_row(b"get-unsat-assumptions ", word),
+        22.. => false,
     }
-    let words = RESERVED;
-    let start = row_start(n);
-    let end = row_start(n + 1);
-    in_row(&words[start..end], word)
-}
-
-// Where the reserved words of n bytes begin.
-fn row_start(n: usize) -> usize
-    requires { ⌜ n < 23 ⌝ }
-    ensures { λ r. ⌜ r ≡ startOf n ⌝ }
-{
-    widened(STARTS[n])
-}
-
-fn widened(x: u16) -> usize
-    ensures { λ r. ⌜ r ≡ x ⌝ }
-{
-    x as usize
 }
 
 // Whether word is one of the words of a row, which are as long as it is and have one byte behind each.

@@ -3,7 +3,7 @@ use mathlib.Core.Path.{_≡_, refl, sym, ap, _∙_}
 use mathlib.Core.Logic.{_⊎_, inl, inr, ⊎-elim}
 use mathlib.Core.List.{List, []}
 use mathlib.Core.Bool.{Bool, true, false}
-use Prim.Native.Nat.{ℕ, zero, suc, _+_, _-_, _<_, _≤_}
+use Prim.Native.Nat.{ℕ, _+_, _-_, _<_, _≤_}
 use native.Mathlib.Omega.{arith}
 use lib.Dec.{leb}
 use lib.ListN.{length, take, drop, getD, List·getD-eq-default, length-drop, drop-of-length-le}
@@ -109,15 +109,6 @@ module _ {A : Type 0} (ds : List (Decoder A)) (s : List ℕ) (at : ℕ) where
 
   pub coded-beyond : at < length s → length ds ≤ getD s at 0 → coded ds s at ≡ refuse 2
   coded-beyond h l = coded-at (getD s at 0) h refl ∙ ap (λ (d : Decoder A). d s (at + 1)) (List·getD-eq-default ds (refusal 2) {n = getD s at 0} l)
-
--- what the last arm of a match over the codes from 0 tells: the byte is none of the k before it
-abbrev pub NoneOf : ℕ → ℕ → Type 0
-NoneOf zero x = Unit
-NoneOf (suc k) x = NoneOf k x × (x ≡ k → ⊥)
-
-pub beyond : (k x : ℕ) → NoneOf k x → k ≤ x
-beyond zero x t = omega arith
-beyond (suc k) x t = let h = beyond k x (t .0) in let g = t .1 in omega arith
 
 -- a part of a section, where it passes the end or not
 module _ (s : List ℕ) (at n : ℕ) where

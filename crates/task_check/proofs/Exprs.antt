@@ -47,7 +47,7 @@ module _ {A B : Type 0} (one : A → Fault) (whole : B → Fault) (x : Res A) (k
   pub stops : (j : ℕ) → v ≡ walked one x → v ≡ walked-is.Refused j → v ≡ walked whole (bind x k)
   stops j e e' = e' ∙ sym (ap (λ (y : Res A). walked whole (bind y k)) (refused-is one x j (sym e' ∙ e)))
 
-  pub goes : (q : ℕ) (g : Fault) (w : Walked) → v ≡ walked one x → v ≡ walked-is.Next q g → ((a : A) → x ≡ got a q → one a ≡ g → w ≡ walked whole (k a q))
+  pub goes : (q : ℕ) (g : Fault) (w : Walked) → v ≡ walked one x → v ≡ walked-is.Next g q → ((a : A) → x ≡ got a q → one a ≡ g → w ≡ walked whole (k a q))
       → w ≡ walked whole (bind x k)
   goes q g w e e' h =
       let y = next-is one x q g (sym e' ∙ e) in
@@ -56,7 +56,7 @@ module _ {A B : Type 0} (one : A → Fault) (whole : B → Fault) (x : Res A) (k
 -- the last piece, whose answer is put behind the faults before
 pub lasts : {A B : Type 0} (one : A → Fault) (whole : B → Fault) (x : Res A) (k : A → B) (f : Fault) → ((a : A) → whole (k a) ≡ lower f (one a))
     → after f (walked one x) ≡ walked whole (bind x (λ a q. got (k a) q))
-lasts one whole (got a q) k f h = ap (walked-is.Next q) (sym (h a))
+lasts one whole (got a q) k f h = ap (λ (z : Fault). walked-is.Next z q) (sym (h a))
 lasts one whole (refuse j) k f h = refl
 
 -- the walk of what a node leaves
@@ -170,7 +170,7 @@ pub given-walks : (l : ℕ) (s : List ℕ) (at : ℕ) (b : Bool) (w : Walked) �
 given-walks l s at b w e h =
     rw e (h ∙ sym (after-sound (walked (sortFault false) (decSort l s at))) ∙ lasts (sortFault false) givenFault (decSort l s at) some Sound (λ b. sym (sound-lower (sortFault false b))))
 
-pub given-none : (l : ℕ) (s : List ℕ) (at : ℕ) (b : Bool) → b ≡ false → walked-is.Next at Sound ≡ walked givenFault (given l b s at)
+pub given-none : (l : ℕ) (s : List ℕ) (at : ℕ) (b : Bool) → b ≡ false → walked-is.Next Sound at ≡ walked givenFault (given l b s at)
 given-none l s at b e = rw e
 
 given-is : (l : ℕ) (s : List ℕ) (at : ℕ) (b : Bool) (o : Option Sort) (q : ℕ) → given l b s at ≡ got o q → isGiven o ≡ b
@@ -186,7 +186,7 @@ module _ (l : ℕ) (b : Bool) (s : List ℕ) (at : ℕ) (v : Walked) (e : v ≡ 
   pub app-stops : (j : ℕ) → v ≡ walked-is.Refused j → v ≡ walked (exprFault false) (applied l b s at)
   app-stops j e' = stops givenFault (exprFault false) (given l b s at) (λ o p. (decExpr l ▹ λ h. counted Exprs.none Exprs.more (decExpr l) ▹ λ es. give (Expr.app h es o)) s p) v j e e'
 
-  module _ (p : ℕ) (f : Fault) (e' : v ≡ walked-is.Next p f) (v' : Walked) (u : v' ≡ walked (exprFault b) (decExpr l s p)) where
+  module _ (p : ℕ) (f : Fault) (e' : v ≡ walked-is.Next f p) (v' : Walked) (u : v' ≡ walked (exprFault b) (decExpr l s p)) where
     -- by the output sort
     onward : (w : Walked) → ((o : Option Sort) → givenFault o ≡ f → isGiven o ≡ b → w ≡ walked (exprFault false) ((decExpr l ▹ λ h. counted Exprs.none Exprs.more (decExpr l) ▹ λ es. give (Expr.app h es o)) s p))
         → w ≡ walked (exprFault false) (applied l b s at)
@@ -197,7 +197,7 @@ module _ (l : ℕ) (b : Bool) (s : List ℕ) (at : ℕ) (v : Walked) (e : v ≡ 
     pub app-head-stops : (j : ℕ) → v' ≡ walked-is.Refused j → v' ≡ walked (exprFault false) (applied l b s at)
     app-head-stops j u' = onward v' (λ o g i. stops (exprFault b) (exprFault false) (decExpr l s p) (λ h q. (counted Exprs.none Exprs.more (decExpr l) ▹ λ es. give (Expr.app h es o)) s q) v' j u u')
 
-    module _ (q : ℕ) (g : Fault) (u' : v' ≡ walked-is.Next q g) (c : Number) (i : number 2 s q ≡ numberOf c) where
+    module _ (q : ℕ) (g : Fault) (u' : v' ≡ walked-is.Next g q) (c : Number) (i : number 2 s q ≡ numberOf c) where
       pub app-count-stops : c ≡ number-is.Refused → walked-is.Refused 2 ≡ walked (exprFault false) (applied l b s at)
       app-count-stops i' =
           onward (walked-is.Refused 2) (λ o z y. goes (exprFault b) (exprFault false) (decExpr l s p) (λ h q. (counted Exprs.none Exprs.more (decExpr l) ▹ λ es. give (Expr.app h es o)) s q) v' q g (walked-is.Refused 2) u u'
@@ -217,7 +217,7 @@ module _ (l n : ℕ) (s : List ℕ) (at : ℕ) (v : Walked) (e : v ≡ walked (e
   pub quantifier-stops : (j : ℕ) → v ≡ walked-is.Refused j → v ≡ walked (exprFault false) (quantified l n s at)
   quantifier-stops j e' = stops (each binderFault) (exprFault false) (many [] _∷_ (binder l) n s at) (λ bs p. (decExpr l ▹ λ b. give (Expr.quantifier Forall bs b)) s p) v j e e'
 
-  pub quantifier-walks : (p : ℕ) (f : Fault) (x w : Walked) → v ≡ walked-is.Next p f → x ≡ walked (exprFault false) (decExpr l s p) → w ≡ after f x
+  pub quantifier-walks : (p : ℕ) (f : Fault) (x w : Walked) → v ≡ walked-is.Next f p → x ≡ walked (exprFault false) (decExpr l s p) → w ≡ after f x
       → w ≡ walked (exprFault false) (quantified l n s at)
   unfolding exprFault
   quantifier-walks p f x w e' u u' =

@@ -25,11 +25,11 @@ module _ (f g : Fault) (a b : ℕ) (e : a ≡ rank f) (e' : b ≡ rank g) where
   lower-second h = rw (← e, ← e', lt-leb _ _ h)
 
 pub after-sound : (w : Walked) → after Sound w ≡ w
-after-sound (walked-is.Next p f) = ap (walked-is.Next p) (sound-lower f)
+after-sound (walked-is.Next f p) = ap (λ (z : Fault). walked-is.Next z p) (sound-lower f)
 after-sound (walked-is.Refused k) = refl
 
 pub after-after : (f g : Fault) (w : Walked) → after (lower f g) w ≡ after f (after g w)
-after-after f g (walked-is.Next p h) = ap (walked-is.Next p) (lower-assoc f g h)
+after-after f g (walked-is.Next h p) = ap (λ (z : Fault). walked-is.Next z p) (lower-assoc f g h)
 after-after f g (walked-is.Refused k) = refl
 
 -- a row's fault is put together from its members'
@@ -43,7 +43,7 @@ pub record Nexts {A : Type 0} (one : A → Fault) (x : Res A) (q : ℕ) (g : Fau
   pub is : x ≡ got value q
   pub fault : one value ≡ g
 
-pub next-is : {A : Type 0} (one : A → Fault) (x : Res A) (q : ℕ) (g : Fault) → walked-is.Next q g ≡ walked one x → Nexts one x q g
+pub next-is : {A : Type 0} (one : A → Fault) (x : Res A) (q : ℕ) (g : Fault) → walked-is.Next g q ≡ walked one x → Nexts one x q g
 next-is one (got a p) q g e = record { value = a; is = ap (got a) (cc); fault = cc }
 next-is one (refuse k) q g e = absurd (let z : _≡_ {A = ℕ} 0 1 = cc in omega arith)
 
@@ -53,10 +53,10 @@ refused-is one (refuse j) k e = ap refuse (cc)
 
 -- a piece that is made of another, which a walker walked: where the walker ended there it ends, and where it refused there is none
 module _ {A B : Type 0} (one : A → Fault) (make : A → B) (x : Res A) (v : Walked) (e : v ≡ walked one x) (b : B) (z : ℕ) (g : bind x (λ a p. got (make a) p) ≡ got b z) where
-  pub made-ends : (q : ℕ) (f : Fault) → v ≡ walked-is.Next q f → q ≡ z
+  pub made-ends : (q : ℕ) (f : Fault) → v ≡ walked-is.Next f q → q ≡ z
   made-ends q f h =
       let i = bind-got x (λ a p. got (make a) p) b z g in
-      let y : walked-is.Next q f ≡ walked-is.Next (i .next) (one (i .value)) = sym h ∙ e ∙ ap (walked one) (i .first) in
+      let y : walked-is.Next f q ≡ walked-is.Next (one (i .value)) (i .next) = sym h ∙ e ∙ ap (walked one) (i .first) in
       let k : i .next ≡ z = cc in
       cc
 
@@ -67,7 +67,7 @@ module _ {A B : Type 0} (one : A → Fault) (make : A → B) (x : Res A) (v : Wa
 
 module _ {A R : Type 0} {end : R} {more : A → R → R} {one : A → Fault} {all : R → Fault} (fold : Fold end more one all) (d : Decoder A) (s : List ℕ) where
   put-before : (a : A) (x : Res R) → walked all (bind x (λ b q. got (more a b) q)) ≡ after (one a) (walked all x)
-  put-before a (got b q) = ap (walked-is.Next q) (fold .step a b)
+  put-before a (got b q) = ap (λ (z : Fault). walked-is.Next z q) (fold .step a b)
   put-before a (refuse k) = refl
 
   row-got : (n p q : ℕ) (a : A) → d s p ≡ got a q → walked all (many end more d (suc n) s p) ≡ after (one a) (walked all (many end more d n s q))
@@ -90,7 +90,7 @@ module _ {A R : Type 0} {end : R} {more : A → R → R} {one : A → Fault} {al
 
     -- no operand is left
     pub row-stop : (f : Fault) (b : B) (p : ℕ) → whole b ≡ f → walked whole (got b p) ≡ after f (walked all (many end more d 0 s p))
-    row-stop f b p e = ap (walked-is.Next p) (rw (e, fold .none) (sym (lower-sound f)))
+    row-stop f b p e = ap (λ (z : Fault). walked-is.Next z p) (rw (e, fold .none) (sym (lower-sound f)))
 
     -- all members at once
     pub row-all : (f : Fault) (k : R → B) (n p : ℕ) → ((r : R) → whole (k r) ≡ lower f (all r))
@@ -98,12 +98,12 @@ module _ {A R : Type 0} {end : R} {more : A → R → R} {one : A → Fault} {al
     row-all f k n p h = go (many end more d n s p)
       where
         go : (x : Res R) → walked whole (bind x (λ r q. got (k r) q)) ≡ after f (walked all x)
-        go (got r q) = ap (walked-is.Next q) (h r)
+        go (got r q) = ap (λ (z : Fault). walked-is.Next z q) (h r)
         go (refuse j) = refl
 
   -- the loop: the n members from p on are left, f is the fault so far, v is the answer for the member at p, x the answer for the whole
   module _ (n p : ℕ) (f : Fault) (x : Walked) where
-    pub row-goes : (v : Walked) (q : ℕ) (g h : Fault) → 0 < n → v ≡ walked one (d s p) → v ≡ walked-is.Next q g → h ≡ lower f g
+    pub row-goes : (v : Walked) (q : ℕ) (g h : Fault) → 0 < n → v ≡ walked one (d s p) → v ≡ walked-is.Next g q → h ≡ lower f g
         → after f (walked all (many end more d n s p)) ≡ x → after h (walked all (many end more d (n - 1) s q)) ≡ x
     row-goes v q g h l e e' u i =
         let y = next-is one (d s p) q g (sym e' ∙ e) in
@@ -119,9 +119,9 @@ module _ {A R : Type 0} {end : R} {more : A → R → R} {one : A → Fault} {al
         ap (λ (j : ℕ). walked all (many end more d j s p)) m ∙ row-refused (n - 1) p k (refused-is one (d s p) k (sym e' ∙ e)) in
         e' ∙ sym (ap (after f) r) ∙ i
 
-    pub row-ends : n ≤ 0 → after f (walked all (many end more d n s p)) ≡ x → walked-is.Next p f ≡ x
+    pub row-ends : n ≤ 0 → after f (walked all (many end more d n s p)) ≡ x → walked-is.Next f p ≡ x
     row-ends l i =
         let m : n ≡ 0 = omega arith in
-        let r : walked all (many end more d n s p) ≡ walked-is.Next p Sound =
-        ap (λ (j : ℕ). walked all (many end more d j s p)) m ∙ ap (walked-is.Next p) (fold .none) in
-        ap (walked-is.Next p) (sym (lower-sound f)) ∙ sym (ap (after f) r) ∙ i
+        let r : walked all (many end more d n s p) ≡ walked-is.Next Sound p =
+        ap (λ (j : ℕ). walked all (many end more d j s p)) m ∙ ap (λ (z : Fault). walked-is.Next z p) (fold .none) in
+        ap (λ (z : Fault). walked-is.Next z p) (sym (lower-sound f)) ∙ sym (ap (after f) r) ∙ i

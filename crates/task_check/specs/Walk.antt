@@ -23,12 +23,12 @@ use Rattle.task_check.specs.declared.Walked.the-variants as walked-is
 
 -- where a decoded piece ends and its fault, or the refusal's number
 abbrev pub walked : {A : Type 0} → (A → Fault) → Res A → Walked
-walked fault (got a p) = walked-is.Next p (fault a)
+walked fault (got a p) = walked-is.Next (fault a) p
 walked fault (refuse k) = walked-is.Refused k
 
 -- an answer with a fault that was met before
 abbrev pub after : Fault → Walked → Walked
-after f (walked-is.Next p g) = walked-is.Next p (lower f g)
+after f (walked-is.Next g p) = walked-is.Next (lower f g) p
 after f (walked-is.Refused k) = walked-is.Refused k
 
 -- what a sort's node leaves to be walked

@@ -18,9 +18,9 @@ ghost use Rattle.task.specs.Fault.{rank as rankOf, lower as lowerOf, each, name
 ghost use Rattle.task.specs.Node.{bytesOf};
 ghost use Rattle.task_check.specs.Walk.{walked, after as afterOf, sortParts, exprParts, applied, quantified, readTrue, namedAt};
 
-// Where a piece ends and its fault, or the number of the refusal.
+// The fault of a piece and where it ends, or the number of the refusal. With the fault first the answer has 16 bytes.
 pub enum Walked {
-    Next(usize, Fault),
+    Next(Fault, usize),
     Refused(u8),
 }
 
@@ -68,14 +68,14 @@ pub fn lower(f: Fault, g: Fault) -> Fault
     g
 }
 
-// The answer with a fault that was met before.
+// The answer with a fault that was met before. It is made anew from its parts: a copy of it as a whole would wait until they are stored.
 pub fn after(f: Fault, w: Walked) -> Walked
     ensures { λ r. ⌜ r ≡ afterOf f w ⌝ }
 {
-    let Walked::Next(p, g) = w else {
-        return w;
-    };
-    Walked::Next(p, lower(f, g))
+    match w {
+        Walked::Next(g, p) => Walked::Next(lower(f, g), p),
+        Walked::Refused(k) => Walked::Refused(k),
+    }
 }
 
 // The fault of a name: it is no symbol.
@@ -192,14 +192,14 @@ pub fn check_sorts(s: &[u8], at: usize, n: u64, levels: usize) -> Walked
     let mut fault = Fault::Sound;
     while 0 < left {
         let one = check_sort(s, p, levels, false);
-        let Walked::Next(q, f) = one else {
+        let Walked::Next(f, q) = one else {
             return one;
         };
         p = q;
         fault = lower(fault, f);
         left -= 1;
     }
-    Walked::Next(p, fault)
+    Walked::Next(fault, p)
 }
 
 // A name and a sort.
@@ -222,14 +222,14 @@ pub fn check_binders(s: &[u8], at: usize, n: u64, levels: usize) -> Walked
     let mut fault = Fault::Sound;
     while 0 < left {
         let one = check_binder(s, p, levels);
-        let Walked::Next(q, f) = one else {
+        let Walked::Next(f, q) = one else {
             return one;
         };
         p = q;
         fault = lower(fault, f);
         left -= 1;
     }
-    Walked::Next(p, fault)
+    Walked::Next(fault, p)
 }
 
 // The output sort of an application, if there is one.
@@ -239,7 +239,7 @@ pub fn check_given(s: &[u8], has: bool, at: usize, levels: usize) -> Walked
     if has {
         return check_sort(s, at, levels, false);
     }
-    Walked::Next(at, Fault::Sound)
+    Walked::Next(Fault::Sound, at)
 }
 
 // Whether a theory function is written by its sort.
@@ -323,14 +323,14 @@ pub fn check_exprs(s: &[u8], at: usize, n: u64, levels: usize) -> Walked
     let mut fault = Fault::Sound;
     while 0 < left {
         let one = check_expr(s, p, levels, false);
-        let Walked::Next(q, f) = one else {
+        let Walked::Next(f, q) = one else {
             return one;
         };
         p = q;
         fault = lower(fault, f);
         left -= 1;
     }
-    Walked::Next(p, fault)
+    Walked::Next(fault, p)
 }
 
 // An application behind its flag: the output sort, the head, and counted arguments.
@@ -338,11 +338,11 @@ fn check_app(s: &[u8], at: usize, has: bool, levels: usize) -> Walked
     ensures { λ r. ⌜ r ≡ walked (exprFault false) (applied levels has (now (s .entry)) at) ⌝ }
 {
     let output = check_given(s, has, at, levels);
-    let Walked::Next(p, f) = output else {
+    let Walked::Next(f, p) = output else {
         return output;
     };
     let head = check_expr(s, p, levels, has);
-    let Walked::Next(q, g) = head else {
+    let Walked::Next(g, q) = head else {
         return head;
     };
     let count = task::number_at(s, q, 2);
@@ -357,7 +357,7 @@ fn check_quantifier(s: &[u8], at: usize, n: u64, levels: usize) -> Walked
     ensures { λ r. ⌜ r ≡ walked (exprFault false) (quantified levels n (now (s .entry)) at) ⌝ }
 {
     let binders = check_binders(s, at, n, levels);
-    let Walked::Next(p, f) = binders else {
+    let Walked::Next(f, p) = binders else {
         return binders;
     };
     after(f, check_expr(s, p, levels, false))
@@ -374,7 +374,7 @@ pub fn check_pred(s: &[u8], at: usize, levels: usize) -> Walked
     let node = task::read_pred_node(s, at);
     match node {
         PredNode::KVar(x, n, p) => after(name_fault(s, x), check_exprs(s, p, n, below)),
-        PredNode::Expr(p) => check_expr(s, p, below, false),
+        PredNode::Expr(p) => after(Fault::Sound, check_expr(s, p, below, false)),
         PredNode::Refused => Walked::Refused(2),
     }
 }
@@ -388,33 +388,34 @@ pub fn check_preds(s: &[u8], at: usize, n: u64, levels: usize) -> Walked
     let mut fault = Fault::Sound;
     while 0 < left {
         let one = check_pred(s, p, levels);
-        let Walked::Next(q, f) = one else {
+        let Walked::Next(f, q) = one else {
             return one;
         };
         p = q;
         fault = lower(fault, f);
         left -= 1;
     }
-    Walked::Next(p, fault)
+    Walked::Next(fault, p)
 }
 
-// Whether the predicate at a position is literally true.
+// Whether the predicate at a position is literally true: the three bytes of Boolean true as a predicate stand there, and levels are left for them.
 pub fn is_literally_true(s: &[u8], at: usize, levels: usize) -> bool
     ensures { λ r. ⌜ r ≡ readTrue (decPred levels (now (s .entry)) at) ⌝ }
 {
-    if levels == 0 {
+    if levels < 2 {
         return false;
     }
-    let node = task::read_pred_node(s, at);
-    let PredNode::Expr(p) = node else {
-        return false;
-    };
-    if levels == 1 {
+    if s.len() < 3 {
         return false;
     }
-    let inner = task::read_expr_node(s, p);
-    let ExprNode::Boolean(b, _) = inner else {
+    if s.len() - 3 < at {
         return false;
-    };
-    b
+    }
+    if s[at] != 1 {
+        return false;
+    }
+    if s[at + 1] != 1 {
+        return false;
+    }
+    s[at + 2] == 1
 }

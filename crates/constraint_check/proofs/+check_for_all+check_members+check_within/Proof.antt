@@ -138,7 +138,7 @@ one-is t c =
     (c .if1 .came)
 
 check-members-returns : (t : ℕ) → check-members-lts.Need-returns (check-members-calls t) (check-members-at t) check-members.Post check-members-Inv-loop check-members-μ-loop
-check-members-returns t c = going-stops _ _ _ _ _ _ _ _ _ (c .before .before .before .before .before .loop .inv) (c .before .before .before .before .loop-test .taken) _ (one-is t (c .before .before)) _ refl _ (c .enum-told .given .1)
+check-members-returns t c = going-stops _ _ _ _ _ _ _ _ _ (c .before .before .before .before .before .before .loop .inv) (c .before .before .before .before .before .loop-test .taken) _ (one-is t (c .before .before .before)) _ refl _ (c .before .walked2 .given .1)
 
 check-members-add-heads : (t : ℕ) → check-members-lts.Need-add-heads (check-members-calls t) (check-members-at t) check-members.Post check-members-Inv-loop check-members-μ-loop
 check-members-add-heads t c = let r = going-room _ _ _ _ _ _ _ _ _ (c .before .before .before .before .before .before .before .before .loop .inv) (c .before .before .before .before .before .before .before .loop-test .taken) _ (one-is t (c .before .before .before .before .before)) _ refl _ _ (c .before .before .before .walked .given .1) in omega arith
@@ -200,13 +200,13 @@ pub +check-for-all+check-members+check-within-spec : {M : Type 1} → statement 
     (λ c κs. search needs)
     (λ c κs. search needs)
     (λ c. search needs)
-    (λ c. search needs)
-    (check-members-returns t)
     (λ c κs. search needs)
     (check-members-add-heads t)
     (λ c. search needs)
     (λ c. search needs)
     (check-members-loop-again t)
+    (λ c. search needs)
+    (check-members-returns t)
     (check-members-returns-2 t))
     λ t. check-within-lts.spec (check-within-calls t) (check-within-at t)
     check-within.Post

@@ -1,52 +1,57 @@
 use borrow.Author.Needs.{needs}
 use native.Mathlib.Omega.{arith}
-use mathlib.Core.Path.{refl}
+use mathlib.Core.Path.{refl, _∙_}
+use mathlib.Core.Logic.{⊎-elim}
 use Rattle.smtlib.specs.Compose.{decimal}
-use Rattle.output.proofs.Decimals.{whole, Filling, filling, room-left, fill-step, filled, filled-size}
+use Rattle.output.proofs.Decimals.{whole, Filling, filling, room-left, step-kept, step-told, last-fits, filled}
 use Rattle.output.proofs.digits_of.Statement.{statement}
 use Rattle.output.proofs.digits_of.Tie as tie
 
 abbrev Inv-loop : tie.InvT-loop
-Inv-loop lo hi bytes₀ i₀ l₀ h₀ bytes i l h = Filling (decimal (whole lo hi)) bytes i (whole l h)
+Inv-loop lo hi keep bytes₀ end₀ l₀ h₀ bytes end l h = Filling (decimal (whole lo hi)) keep bytes end (whole l h)
 
 abbrev μ-loop : tie.MeasureT-loop
-μ-loop lo hi bytes₀ i₀ l₀ h₀ bytes i l h = i
+μ-loop lo hi keep bytes₀ end₀ l₀ h₀ bytes end l h = end
 
 loop-holds : tie.Need-loop-holds Inv-loop μ-loop
-loop-holds c = filling _ _ _ refl (c .fits .lo .fits) (c .fits .hi .fits)
+loop-holds c = filling _ _ _ _ refl (c .fits .lo .fits) (c .fits .hi .fits)
 
-below-ten-requires : tie.Need-below-ten-requires Inv-loop μ-loop
-below-ten-requires c κs = search needs
+is-short-requires : tie.Need-is-short-requires Inv-loop μ-loop
+is-short-requires c κs = search needs
 
 divide-requires : tie.Need-divide-requires Inv-loop μ-loop
 divide-requires c κs = search needs
 
-add-bytes : tie.Need-add-bytes Inv-loop μ-loop
-add-bytes c = omega (arith, c .before .divide .ensures .1)
+slice-aggregate-fill : tie.Need-slice-aggregate-fill Inv-loop μ-loop
+slice-aggregate-fill c = search needs
 
-array-write-bytes : tie.Need-array-write-bytes Inv-loop μ-loop
-array-write-bytes c = let f = c .before .before .before .before .loop .inv .place in let g = c .before .before .before .before .loop .inv .size in search needs
+fill-requires : tie.Need-fill-requires Inv-loop μ-loop
+fill-requires c κs =
+    let p = room-left _ _ _ _ _ _ _ (c .before .before .before .before .before .loop .inv) (c .before .before .before .before .is-short .ensures) (c .before .before .before .if1 .left) in
+    (omega arith, omega (arith, c .before .before .before .before .before .loop .inv .place, c .before .before .before .before .before .loop .inv .size))
 
-sub-i : tie.Need-sub-i Inv-loop μ-loop
-sub-i c = room-left _ _ _ _ _ _ (c .before .before .before .before .loop .inv) (c .before .before .before .below-ten .ensures) (c .before .before .if1 .left)
+sub-end : tie.Need-sub-end Inv-loop μ-loop
+sub-end c = let p = room-left _ _ _ _ _ _ _ (c .before .before .before .before .loop .inv) (c .before .before .before .is-short .ensures) (c .before .before .if1 .left) in omega arith
 
 loop-less : tie.Need-loop-less Inv-loop μ-loop
-loop-less c = let p = room-left _ _ _ _ _ _ (c .before .before .before .before .loop .inv) (c .before .before .before .below-ten .ensures) (c .before .before .if1 .left) in omega arith
+loop-less c = let p = room-left _ _ _ _ _ _ _ (c .before .before .before .before .loop .inv) (c .before .before .before .is-short .ensures) (c .before .before .if1 .left) in omega arith
 
 loop-again : tie.Need-loop-again Inv-loop μ-loop
-loop-again c = fill-step _ _ _ _ _ _ (c .before .before .before .before .loop .inv) (c .before .before .before .below-ten .ensures) _ _ _ (c .before .before .if1 .left) (c .before .divide .ensures .0) (c .before .divide .ensures .1)
+loop-again c =
+    ⊎-elim
+    (λ w. step-kept _ _ _ _ _ _ _ (c .before .before .before .before .loop .inv) (c .before .before .before .is-short .ensures) _ _ _ _ (c .before .before .if1 .left) (c .before .divide .ensures .0) (c .before .divide .ensures .1) _ (w .4) (w .2 .kept .0) (w .2 .ensures))
+    (λ w. step-told _ _ _ _ _ _ _ (c .before .before .before .before .loop .inv) (c .before .before .before .is-short .ensures) _ _ _ _ (c .before .before .if1 .left) (c .before .divide .ensures .0) (c .before .divide .ensures .1) (w .1) (w .0 .left))
+    (c .if2 .came)
 
-divide-requires-2 : tie.Need-divide-requires-2 Inv-loop μ-loop
-divide-requires-2 c κs = search needs
+slice-aggregate-fill-last : tie.Need-slice-aggregate-fill-last Inv-loop μ-loop
+slice-aggregate-fill-last c = search needs
 
-add-bytes-2 : tie.Need-add-bytes-2 Inv-loop μ-loop
-add-bytes-2 c = omega (arith, c .before .divide2 .ensures .1)
-
-array-write-bytes-2 : tie.Need-array-write-bytes-2 Inv-loop μ-loop
-array-write-bytes-2 c = let f = c .before .before .before .before .loop .inv .place in let g = c .before .before .before .before .loop .inv .size in search needs
+fill-last-requires : tie.Need-fill-last-requires Inv-loop μ-loop
+fill-last-requires c κs =
+    (c .before .before .before .loop .inv .some, omega (arith, c .before .before .before .loop .inv .place, c .before .before .before .loop .inv .size), last-fits _ _ _ _ _ _ _ (c .before .before .before .loop .inv) (c .before .before .is-short .ensures) (c .before .if1 .taken))
 
 returns : tie.Need-returns Inv-loop μ-loop
-returns c = (filled _ _ _ _ _ _ (c .before .before .before .before .loop .inv) (c .before .before .before .below-ten .ensures) _ (c .before .before .if1 .taken) (c .before .divide2 .ensures .1), omega (arith, c .before .before .before .before .loop .inv .place), filled-size _ _ _ _ _ _ (c .before .before .before .before .loop .inv) (c .before .before .before .below-ten .ensures) _)
+returns c = filled _ _ _ _ _ _ _ (c .before .before .before .before .before .loop .inv) (c .before .before .before .before .is-short .ensures) _ _ (c .before .before .before .if1 .taken) (c .before .fill-last .kept .0 ∙ c .before .before .before .before .before .loop .inv .size) (c .before .fill-last .ensures .0) (c .before .fill-last .ensures .1)
 
 pub digits-of-spec : {M : Type 1} → statement M
 digits-of-spec =
@@ -55,14 +60,13 @@ digits-of-spec =
     Inv-loop
     μ-loop
     loop-holds
-    below-ten-requires
+    is-short-requires
     divide-requires
-    add-bytes
-    array-write-bytes
-    sub-i
+    slice-aggregate-fill
+    fill-requires
+    sub-end
     loop-less
     loop-again
-    divide-requires-2
-    add-bytes-2
-    array-write-bytes-2
+    slice-aggregate-fill-last
+    fill-last-requires
     returns)

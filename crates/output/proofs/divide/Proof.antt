@@ -1,30 +1,28 @@
-use native.Mathlib.Omega.{arith}
-use Prim.Native.Nat.{_%_}
-use Rattle.output.proofs.Decimals.{tenth, last-digit, low-fits}
+use Rattle.output.proofs.Decimals.{high-fits, divided}
 use borrow.Author.Needs.{needs}
 use Rattle.output.proofs.divide.Statement.{statement}
 use Rattle.output.proofs.divide.Tie as tie
 
-mul-m : tie.Need-mul-m
-mul-m c = search needs
+mul-high : tie.Need-mul-high
+mul-high c = search needs
 
-add-m : tie.Need-add-m
-add-m c = search needs
+add-high : tie.Need-add-high
+add-high c = record { fits = high-fits (c .args .lo) (c .args .hi) (c .fits .lo .fits) }
 
-mul-t5 : tie.Need-mul-t5
-mul-t5 c = search needs
+mul-low : tie.Need-mul-low
+mul-low c = search needs
 
-add-t7 : tie.Need-add-t7
-add-t7 c = record { fits = low-fits (c .args .hi % 10) (c .args .lo) (omega arith) (c .fits .lo .fits) }
+add-low : tie.Need-add-low
+add-low c = search needs
 
-add-t9 : tie.Need-add-t9
-add-t9 c = search needs
+mul-t6 : tie.Need-mul-t6
+mul-t6 c = search needs
 
-cast-t12 : tie.Need-cast-t12
-cast-t12 c = search needs
+add-t8 : tie.Need-add-t8
+add-t8 c = search needs
 
 returns : tie.Need-returns
-returns c = (tenth (c .args .lo) (c .args .hi), last-digit (c .args .lo) (c .args .hi))
+returns c = divided (c .args .lo) (c .args .hi)
 
 pub divide-spec : {M : Type 1} → statement M
-divide-spec = tie.close (tie.spec mul-m add-m mul-t5 add-t7 add-t9 cast-t12 returns)
+divide-spec = tie.close (tie.spec mul-high add-high mul-low add-low mul-t6 add-t8 returns)

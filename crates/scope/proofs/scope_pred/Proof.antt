@@ -31,6 +31,9 @@ enum-known-node-2 c = search needs
 scope-expr-requires : tie.Need-scope-expr-requires
 scope-expr-requires c κs = expr-space _ _ _ _ _ (c .before .before .before .before .before .if1 .left) (c .before .before .before .before .read-pred-node .ensures) _ (c .before .before .node2 .given .1) (c .before .before .before .before .before .before .before .before .pre)
 
+after-requires-2 : tie.Need-after-requires-2
+after-requires-2 c κs = search needs
+
 enum-told : tie.Need-enum-told
 enum-told c = search needs
 
@@ -44,7 +47,7 @@ same-length-2 : tie.Need-same-length-2
 same-length-2 c = search needs
 
 returns-3 : tie.Need-returns-3
-returns-3 c = pred-expr _ _ _ _ _ (c .before .before .before .before .before .before .before .before .if1 .left) (c .before .before .before .before .before .before .before .read-pred-node .ensures) _ _ _ (c .before .before .before .before .before .node2 .given .1) (c .before .before .scope-expr .ensures)
+returns-3 c = pred-expr _ _ _ _ _ (c .before .before .before .before .before .before .before .before .before .if1 .left) (c .before .before .before .before .before .before .before .before .read-pred-node .ensures) _ _ _ _ (c .before .before .before .before .before .before .node2 .given .1) (c .before .before .before .scope-expr .ensures) (c .after2 .ensures)
 
 returns-4 : tie.Need-returns-4
 returns-4 c = pred-refused _ _ _ _ _ (c .before .before .before .if1 .left) (c .before .before .read-pred-node .ensures) (c .enum-told .given .1) (c .before .before .before .before .before .before .pre)
@@ -62,6 +65,7 @@ scope-pred-spec =
     after-requires
     enum-known-node-2
     scope-expr-requires
+    after-requires-2
     enum-told
     same-length
     returns-2

@@ -3,7 +3,8 @@ use mathlib.Core.Path.{_∙_}
 use native.Mathlib.Omega.{arith}
 use Rattle.task.specs.Decode.{predForms}
 use Rattle.task.specs.Node.{predOf}
-use Rattle.task.proofs.Reading.{coded-short, coded-at, coded-beyond, beyond}
+use Rattle.smtlib.proofs.Entries.{beyond}
+use Rattle.task.proofs.Reading.{coded-short, coded-at, coded-beyond}
 use borrow.Author.Needs.{needs}
 use Rattle.task.proofs.read_pred_node.Statement.{statement}
 use Rattle.task.proofs.read_pred_node.Tie as tie

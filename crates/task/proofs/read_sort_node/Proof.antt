@@ -2,7 +2,8 @@
 use mathlib.Core.Path.{_∙_}
 use Rattle.task.specs.Decode.{sortForms}
 use Rattle.task.specs.Node.{SortAt, SortForm, sortOf}
-use Rattle.task.proofs.Reading.{coded-short, coded-at, coded-beyond, beyond}
+use Rattle.smtlib.proofs.Entries.{beyond}
+use Rattle.task.proofs.Reading.{coded-short, coded-at, coded-beyond}
 use borrow.Author.Needs.{needs}
 use Rattle.task.proofs.read_sort_node.Statement.{statement}
 use Rattle.task.proofs.read_sort_node.Tie as tie

@@ -1,7 +1,8 @@
 -- read_thy_func gives what the code stands for, or refuses.
 use mathlib.Core.Path.{_∙_}
 use Rattle.task.specs.Decode.{thyFuncs}
-use Rattle.task.proofs.Reading.{coded-short, coded-at, coded-beyond, beyond}
+use Rattle.smtlib.proofs.Entries.{beyond}
+use Rattle.task.proofs.Reading.{coded-short, coded-at, coded-beyond}
 use borrow.Author.Needs.{needs}
 use Rattle.task.proofs.read_thy_func.Statement.{statement}
 use Rattle.task.proofs.read_thy_func.Tie as tie

@@ -31,6 +31,9 @@ enum-known-node-2 c = search needs
 check-expr-requires : tie.Need-check-expr-requires
 check-expr-requires c κs = search needs
 
+after-requires-2 : tie.Need-after-requires-2
+after-requires-2 c κs = search needs
+
 enum-told : tie.Need-enum-told
 enum-told c = search needs
 
@@ -56,6 +59,7 @@ check-pred-spec =
     after-requires
     enum-known-node-2
     check-expr-requires
+    after-requires-2
     enum-told
     returns-2
     returns-3

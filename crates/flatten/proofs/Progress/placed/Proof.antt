@@ -8,8 +8,8 @@ use borrow.Author.Needs.{needs}
 use Rattle.flatten.proofs.Progress.placed.Statement.{statement}
 use Rattle.flatten.proofs.Progress.placed.Tie as tie
 
-difference-requires : tie.Need-difference-requires
-difference-requires c κs = search needs
+room-requires : tie.Need-room-requires
+room-requires c κs = search needs
 
 note-requires : tie.Need-note-requires
 note-requires c κs = search needs
@@ -27,13 +27,13 @@ same-length : tie.Need-same-length
 same-length c = search needs
 
 returns : tie.Need-returns
-returns c = (same-progress refl (c .before .before .sum .ensures) (c .before .sum2 .ensures) (c .greatest .ensures), c .before .before .before .before .before .note .ensures ∙ ap (λ (i : ℕ). set (c .before .before .before .before .before .before .before .before .before .before .args .lengths .now) i (min (c .before .before .before .before .before .before .before .before .before .before .args .n) most32)) (c .before .before .before .before .before .before .difference .ensures))
+returns c = (same-progress refl (c .before .before .sum .ensures) (c .before .sum2 .ensures) (c .greatest .ensures), c .before .before .before .before .before .note .ensures ∙ ap (λ (i : ℕ). set (c .before .before .before .before .before .before .before .before .before .before .args .lengths .now) i (min (c .before .before .before .before .before .before .before .before .before .before .args .n) most32)) (c .before .before .before .before .before .before .room .ensures))
 
 pub placed-spec : {M : Type 1} → statement M
 placed-spec =
     tie.close
     (tie.spec
-    difference-requires
+    room-requires
     note-requires
     sum-requires
     sum-requires-2
