@@ -4,7 +4,7 @@
  *   - `file` points to `file_len` bytes that can be read, `buf` to `buf_len` bytes that can be written, and `lengths` to `lengths_len` values
  *     that can be written, aligned. None is NULL, even where the length is 0. `sizes` points to four values, `length` to one, aligned.
  *   - `buf` and `lengths` share no byte with `file` or with each other, and `sizes` and `length` share none with any of them.
- *   - The thread has 640 KB of stack left, which the deepest tasks need (256 levels of ForAlls or Conjs); there is no heap.
+ *   - The thread has 700 KB of stack left, which the deepest tasks need (256 levels of ForAlls or Conjs); there is no heap.
  * The archive is for x86-64 Linux. The bytes, the edition, the numbers of parts and the lengths are free: there is nothing to test before a call.
  * An uninitialised buffer or table is fine.
  *

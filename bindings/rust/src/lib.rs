@@ -2,7 +2,7 @@
 //!
 //! The four calls `survey`, `part`, `script` and `run` take any bytes, any numbers and a buffer of any length, and there is nothing to test before a
 //! call. A refusal is its number and changes no byte of the buffer; a success is its values, and the bytes behind the written text are unchanged. A
-//! call needs up to 640 KB of stack, which Rust's threads have, and no heap.
+//! call needs up to 700 KB of stack, which Rust's threads have, and no heap.
 //!
 //! ```
 //! use jiggerreef::Edition;

@@ -263,7 +263,7 @@ fn a_quotation_mark_in_a_string_is_written_twice() {
     assert_eq!(number(survey(&file, Edition::Z3)), Some(4));
 }
 
-/// 254 ForAlls inside each other, the most that there may be, and 254 Conjs: a thread of 640 KB has the stack that is promised to be enough.
+/// 254 ForAlls inside each other, the most that there may be, and 254 Conjs: a thread of 700 KB has the stack that is promised to be enough.
 #[test]
 fn the_deepest_tasks_fit_a_small_thread() {
     let for_all = |i: usize| {
@@ -282,7 +282,7 @@ fn the_deepest_tasks_fit_a_small_thread() {
             assert!(part(&file, Edition::Z3, 3, &mut vec![0; sizes.longest]).is_ok());
             assert_eq!(run(&file, Edition::Z3, 0, 5, &mut vec![0; sizes.bytes], &mut [0; 5]), Ok(sizes.bytes));
         };
-        std::thread::Builder::new().stack_size(640 << 10).spawn(walked).unwrap().join().unwrap();
+        std::thread::Builder::new().stack_size(700 << 10).spawn(walked).unwrap().join().unwrap();
     }
 }
 

@@ -168,10 +168,6 @@ pub not-set : (b : Bool) → not b ≡ true → b ≡ false
 not-set true e = clash (cc)
 not-set false e = refl
 
-pub set-is : (b : Bool) → not b ≡ false → b ≡ true
-set-is true e = refl
-set-is false e = clash (cc)
-
 -- a list without places
 pub empty : (xs : List ℕ) → length xs ≤ 0 → xs ≡ []
 empty [] h = refl

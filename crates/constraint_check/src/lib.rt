@@ -58,7 +58,7 @@ pub fn is_head(s: &[u8], at: usize, levels: usize) -> bool
     s[at] == 0
 }
 
-// 1, or 0 for a predicate that is literally true or none.
+// 1, or 0 for a predicate that is literally true.
 fn count_of(s: &[u8], at: usize, levels: usize) -> u64
     ensures { λ r. ⌜ r ≡ cond (readTrue (decPred levels (now (s .entry)) at)) 0 1 ⌝ }
 {

@@ -109,19 +109,19 @@ fn is_visible(b: u8) -> bool
     b <= 126
 }
 
-// Whether every byte is such a byte.
+// Whether every byte is such a byte. Every byte is looked at: a loop with no other way out is compiled to look at many at once.
 fn all_visible(text: &[u8]) -> bool
     ensures { λ r. ⌜ r ≡ all visible (now (text .entry)) ⌝ }
 {
+    let mut visible = true;
     let mut i: usize = 0;
     while i < text.len() {
-        if is_visible(text[i]) {
-            i += 1;
-        } else {
-            return false;
+        if !is_visible(text[i]) {
+            visible = false;
         }
+        i += 1;
     }
-    true
+    visible
 }
 
 // The fault of a comment's or a string's bytes.

@@ -3,7 +3,8 @@ use mathlib.Core.Path.{refl}
 use borrow.Author.Tests.{lt-ltb, le-ltb}
 use Rattle.output.specs.Emit.{emits}
 use Rattle.assertion.specs.Under.{ungroupText}
-use Rattle.assertion.proofs.Asserts.{not-set, set-is}
+use Rattle.task_check.proofs.Texts.{set-is}
+use Rattle.assertion.proofs.Asserts.{not-set}
 use borrow.Author.Needs.{needs}
 use Rattle.assertion.proofs.close_guards.Statement.{statement}
 use Rattle.assertion.proofs.close_guards.Tie as tie

@@ -9,7 +9,7 @@ use borrow.Author.Tests.{ltb-true}
 use Rattle.constraint_check.specs.Around.{isHead}
 use Rattle.smt_sort.specs.Section.{encoderIn}
 use Rattle.assertion.specs.Kept.{Keeps}
-use Rattle.assertion.proofs.Asserts.{set-is}
+use Rattle.task_check.proofs.Texts.{set-is}
 use Rattle.flatten.specs.Parts.{writing}
 use Rattle.flatten.specs.Walk.{Onward}
 use Rattle.flatten.proofs.Flattening.{onward-start, onward-more, head-within, head-put, next-asked, next-stands, enough-same}

@@ -1,5 +1,6 @@
 -- `flatten_kept_head`: the head is passed, or its assertion is measured or put.
-use Rattle.assertion.proofs.Asserts.{not-set, set-is}
+use Rattle.task_check.proofs.Texts.{set-is}
+use Rattle.assertion.proofs.Asserts.{not-set}
 use Rattle.flatten.proofs.Flattening.{kept-passed, measured-wanted, kept-wanted, enough-room}
 use native.Mathlib.Omega.{arith}
 use lib.ListN.{length}

@@ -1,19 +1,20 @@
--- all_visible tests every byte: those from i on are still to be tested.
+-- all_visible tests every byte: what was seen so far and the bytes from i on decide it.
 use mathlib.Core.Path.{_≡_, refl}
-use mathlib.Core.Bool.{true}
+use mathlib.Core.Bool.{_&&_}
+use mathlib.Core.Logic.{⊎-elim}
 use Prim.Native.Nat.{_-_}
 use lib.ListN.{length, drop}
 use Rattle.smtlib.specs.Lexicon.{all, visible}
-use Rattle.task_check.proofs.Texts.{all-step, all-stop, all-end}
+use Rattle.task_check.proofs.Texts.{byte-fails, byte-passes, bytes-end}
 use borrow.Author.Needs.{needs}
 use Rattle.task_check.proofs.all_visible.Statement.{statement}
 use Rattle.task_check.proofs.all_visible.Tie as tie
 
 abbrev Inv-loop : tie.InvT-loop
-Inv-loop text i₀ i = all visible (drop i text) ≡ all visible text
+Inv-loop text visible₀ i₀ seen i = (seen && all visible (drop i text)) ≡ all visible text
 
 abbrev μ-loop : tie.MeasureT-loop
-μ-loop text i₀ i = length text - i
+μ-loop text visible₀ i₀ seen i = length text - i
 
 loop-holds : tie.Need-loop-holds Inv-loop μ-loop
 loop-holds c = refl
@@ -31,13 +32,14 @@ loop-less : tie.Need-loop-less Inv-loop μ-loop
 loop-less c = search needs
 
 loop-again : tie.Need-loop-again Inv-loop μ-loop
-loop-again c = all-step _ _ _ _ _ (c .before .before .before .loop-test .taken) (c .before .is-visible .ensures) (c .if1 .taken) (c .before .before .before .before .loop .inv)
+loop-again c =
+    ⊎-elim
+    (λ w. byte-fails visible _ _ (c .before .before .before .before .loop .visible) _ _ _ (c .before .before .before .loop-test .taken) (c .before .is-visible .ensures) (c .before .before .before .before .loop .inv) (w .0 .taken) (w .1))
+    (λ w. byte-passes visible _ _ (c .before .before .before .before .loop .visible) _ _ _ (c .before .before .before .loop-test .taken) (c .before .is-visible .ensures) (c .before .before .before .before .loop .inv) (w .0 .left) (w .1))
+    (c .if1 .came)
 
 returns : tie.Need-returns Inv-loop μ-loop
-returns c = all-stop visible _ _ _ _ (c .before .before .before .loop-test .taken) (c .before .is-visible .ensures) (c .if1 .left) (c .before .before .before .before .loop .inv)
-
-returns-2 : tie.Need-returns-2 Inv-loop μ-loop
-returns-2 c = all-end visible (c .before .before .before .args .text .now) _ true _ (c .loop-test .left) (c .before .loop .inv)
+returns c = bytes-end visible _ _ _ _ (c .loop-test .left) (c .before .loop .inv)
 
 pub all-visible-spec : {M : Type 1} → statement M
 all-visible-spec =
@@ -51,5 +53,4 @@ all-visible-spec =
     add-i
     loop-less
     loop-again
-    returns
-    returns-2)
+    returns)
