@@ -16,6 +16,7 @@ use Rattle.task.specs.Fault.{needsSort}
 use Rattle.task.specs.Node.{bytesOf, exprOf, ExprAt}
 use Rattle.task.proofs.ExprNode.{the-type}
 use Rattle.task.proofs.Reading.{got-refuse}
+use Rattle.task_check.proofs.Preds.{behind as behindAll}
 use Rattle.smt_text.specs.Encoder.{Encoder, isQualified}
 use Rattle.names.specs.declared.Kind.the-variants.{Constructor}
 use Rattle.smt_sort.specs.Section.{declaredIn, encoderIn}
@@ -32,8 +33,7 @@ others = 0 ∷ 1 ∷ 2 ∷ 3 ∷ 4 ∷ 6 ∷ 7 ∷ 8 ∷ 9 ∷ 10 ∷ 11 ∷ 12 
 
 module _ (enc : Encoder) where
   behind : {A : Type 0} (x : Res A) (k : A → ℕ → Res Expr) → ((a : A) (q : ℕ) → qualifiedIn enc (k a q) ≡ false) → qualifiedIn enc (bind x k) ≡ false
-  behind (got a q) k h = h a q
-  behind (refuse j) k h = refl
+  behind = behindAll (qualifiedIn enc) (λ j. refl)
 
   module _ (s : List ℕ) (l : ℕ) (expr : Decoder Expr) where
     unqualified : (n : ExprNode) → OneOf others (tagOf the-type n) → qualifiedIn enc (exprOf s l expr n) ≡ false

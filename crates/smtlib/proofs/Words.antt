@@ -13,7 +13,7 @@ use lib.ListN.{length, getD, take, drop, length-drop, length-append, drop-of-len
 use lib.Seq.{drop-cons, drop-drop, take-at, drop-at, take-suc, take-length}
 use borrow.Author.Tests.{eq-eqb, ne-eqb, eqb-false}
 use Rattle.smtlib.specs.Lexicon.{bytes, all, any, same, among, reservedWords, isReserved, digit, letter, symbolByte, isSimple, isSymbol}
-use Rattle.smtlib.specs.Table.{symbolPlace, symbolPlaces, rowOf, pieces, oneOf, inRow}
+use Rattle.smtlib.specs.Table.{symbolPlace, symbolPlaces, pieces, oneOf, inRow}
 use Rattle.smtlib.proofs.Bools.{never, true-holds, and-right, either, any-all, same→eq, among-each, all-append}
 use Rattle.smtlib.proofs.Entries.{value-at}
 
@@ -92,6 +92,11 @@ search-end w r n i s h =
     sym (ap (oneOf w) (no-piece (length w) (length w) [] (drop i r) (rw (length-drop i r) (omega (arith, s .size))))) ∙ s .rest
 
 -- is_reserved
+
+-- the words of n bytes, with a space behind each
+abbrev pub rowOf : ℕ → List String → List ℕ
+rowOf n [] = []
+rowOf n (s ∷ ss) = cond (eqb (length (bytes s)) n) (bytes s ++ (32 ∷ [])) [] ++ rowOf n ss
 
 -- a word of w's length, and a space, before the rest of a row
 row-word : (w u r : List ℕ) → length u ≡ length w → inRow w ((u ++ (32 ∷ [])) ++ r) ≡ same w u || inRow w r

@@ -3,10 +3,8 @@ use mathlib.Core.Bool.{Bool, false, cond, _||_}
 use mathlib.Core.List.{List, [], _∷_, _++_}
 use Prim.Native.Nat.{ℕ, zero, suc, _+_}
 use Prim.Native.Char.{code}
-use Prim.Native.String.{String}
-use lib.Dec.{eqb}
 use lib.ListN.{length}
-use Rattle.smtlib.specs.Lexicon.{bytes, same, symbolByte}
+use Rattle.smtlib.specs.Lexicon.{same, symbolByte}
 
 -- The values of f at n numbers from i on.
 abbrev pub values : (ℕ → ℕ) → ℕ → ℕ → List ℕ
@@ -19,11 +17,6 @@ symbolPlace b = cond (symbolByte b) b (code " ")
 
 unfoldable pub symbolPlaces : List ℕ
 symbolPlaces = values symbolPlace 0 128
-
--- The words of n bytes, with a space behind each.
-abbrev pub rowOf : ℕ → List String → List ℕ
-rowOf n [] = []
-rowOf n (s ∷ ss) = cond (eqb (length (bytes s)) n) (bytes s ++ (code " " ∷ [])) [] ++ rowOf n ss
 
 -- The pieces of n bytes in a row that has one byte behind each of them: k more bytes belong to the piece that begins with w.
 abbrev pub pieces : ℕ → ℕ → List ℕ → List ℕ → List (List ℕ)

@@ -67,7 +67,7 @@ module _ {A : Type 0} (test : Res A → Bool) (none : (k : ℕ) → test (refuse
   at-fails (d ∷ ds) t zero = t .0
   at-fails (d ∷ ds) t (suc k) = at-fails ds (t .1) k
 
-  behind : {B : Type 0} (x : Res B) (k : B → ℕ → Res A) → ((b : B) (q : ℕ) → test (k b q) ≡ false) → test (bind x k) ≡ false
+  pub behind : {B : Type 0} (x : Res B) (k : B → ℕ → Res A) → ((b : B) (q : ℕ) → test (k b q) ≡ false) → test (bind x k) ≡ false
   behind (got b q) k h = h b q
   behind (refuse j) k h = none j
 

@@ -177,7 +177,7 @@ flatten-members-loop-holds : (t : ℕ) → flatten-members-lts.Need-loop-holds (
 flatten-members-loop-holds t c = (members-start _ _ _ _ _ _ _, refl, stays-same _ _, refl, refl)
 
 flatten-members-flatten-heads-requires : (t : ℕ) → flatten-members-lts.Need-flatten-heads-requires (flatten-members-calls t) (flatten-members-at t) flatten-members.Post flatten-members-Inv-loop flatten-members-μ-loop
-flatten-members-flatten-heads-requires t c κs = ((c .before .before .before .before .before .before .before .before .before .before .before .before .before .before .before .before .pre .1 .chained, enough-same _ _ _ _ _ _ _ (c .before .before .before .before .before .before .before .is-enough .ensures) (next-asked (c .before .before .before .before .before .before .before .before .before .before .before .before .before .before .before .before .args .levels) (c .before .before .before .before .before .before .before .before .before .before .before .before .before .before .before .before .args .s .now) (c .before .before .before .before .before .before .loop .moved .at) (c .before .before .before .before .before .before .before .is-enough .result) _ (c .before .before .before .before .is-next-head .ensures) (c .before .before .before .if1 .taken)) (c .before .before .before .before .before .before .loop .inv .2 .size) (c .before .before .before .before .before .before .loop .inv .3) (c .before .before .before .before .before .before .loop .inv .1)), (next-stands (c .before .before .before .before .before .before .before .before .before .before .before .before .before .before .before .before .args .levels) (c .before .before .before .before .before .before .before .before .before .before .before .before .before .before .before .before .args .s .now) (c .before .before .before .before .before .before .loop .moved .at) (c .before .before .before .before .before .before .before .is-enough .result) _ (c .before .before .before .before .is-next-head .ensures) (c .before .before .before .if1 .taken), c .before .before .before .before .before .loop-test .taken))
+flatten-members-flatten-heads-requires t c κs = let z = c .before .before .before .before .before .loop-test .taken in ((c .before .before .before .before .before .before .before .before .before .before .before .before .before .before .before .before .pre .1 .chained, enough-same _ _ _ _ _ _ _ (c .before .before .before .before .before .before .before .is-enough .ensures) (next-asked (c .before .before .before .before .before .before .before .before .before .before .before .before .before .before .before .before .args .levels) (c .before .before .before .before .before .before .before .before .before .before .before .before .before .before .before .before .args .s .now) (c .before .before .before .before .before .before .loop .moved .at) (c .before .before .before .before .before .before .before .is-enough .result) _ (c .before .before .before .before .is-next-head .ensures) (c .before .before .before .if1 .taken)) (c .before .before .before .before .before .before .loop .inv .2 .size) (c .before .before .before .before .before .before .loop .inv .3) (c .before .before .before .before .before .before .loop .inv .1)), (next-stands (c .before .before .before .before .before .before .before .before .before .before .before .before .before .before .before .before .args .levels) (c .before .before .before .before .before .before .before .before .before .before .before .before .before .before .before .before .args .s .now) (c .before .before .before .before .before .before .loop .moved .at) (c .before .before .before .before .before .before .before .is-enough .result) _ (c .before .before .before .before .is-next-head .ensures) (c .before .before .before .if1 .taken), omega arith))
 
 flatten-members-loop-less : (t : ℕ) → flatten-members-lts.Need-loop-less (flatten-members-calls t) (flatten-members-at t) flatten-members.Post flatten-members-Inv-loop flatten-members-μ-loop
 flatten-members-loop-less t c = c .before .before .before .before .before .before .flatten-heads .ensures .1 .0
@@ -189,7 +189,7 @@ flatten-members-flatten-constraint-requires : (t : ℕ) → flatten-members-lts.
 flatten-members-flatten-constraint-requires t c κs = let far = c .before .before .before .before .before .before .before .before .before .before .before .before .before .before .before .before .pre .0 in (omega arith, ready-stays _ _ _ _ _ _ (c .before .before .before .before .before .before .before .before .before .before .before .before .before .before .before .before .pre .1) _ _ (c .before .before .before .before .before .before .loop .inv .2) (c .before .before .before .before .before .before .loop .inv .1))
 
 flatten-members-loop-again-2 : (t : ℕ) → flatten-members-lts.Need-loop-again-2 (flatten-members-calls t) (flatten-members-at t) flatten-members.Post flatten-members-Inv-loop flatten-members-μ-loop
-flatten-members-loop-again-2 t c = (members-more _ _ _ _ _ _ _ _ _ _ _ _ (c .before .before .before .before .before .before .before .before .before .before .before .before .before .before .loop-test .taken) (c .before .before .before .before .before .before .before .before .before .before .before .before .before .before .before .loop .inv .0) (c .before .before .before .before .before .before .before .before .flatten-constraint .ensures .0), c .before .before .before .before .before .before .before .before .flatten-constraint .ensures .1 .0 ∙ c .before .before .before .before .before .before .before .before .before .before .before .before .before .before .before .loop .inv .1, stays-then _ _ _ _ (c .before .before .before .before .before .before .before .before .before .before .before .before .before .before .before .loop .inv .2) (stays-kept _ _ _ _ (c .before .before .before .before .before .before .before .before .before .before .before .before .before .before .before .loop .inv .1) (c .before .before .before .before .before .before .before .before .flatten-constraint .ensures .1 .1)), search needs, search needs)
+flatten-members-loop-again-2 t c = let z = c .before .before .before .before .before .before .before .before .before .before .before .before .before .before .loop-test .taken in (members-more _ _ _ _ _ _ _ _ _ _ _ _ (omega arith) (c .before .before .before .before .before .before .before .before .before .before .before .before .before .before .before .loop .inv .0) (c .before .before .before .before .before .before .before .before .flatten-constraint .ensures .0), c .before .before .before .before .before .before .before .before .flatten-constraint .ensures .1 .0 ∙ c .before .before .before .before .before .before .before .before .before .before .before .before .before .before .before .loop .inv .1, stays-then _ _ _ _ (c .before .before .before .before .before .before .before .before .before .before .before .before .before .before .before .loop .inv .2) (stays-kept _ _ _ _ (c .before .before .before .before .before .before .before .before .before .before .before .before .before .before .before .loop .inv .1) (c .before .before .before .before .before .before .before .before .flatten-constraint .ensures .1 .1)), search needs, search needs)
 
 flatten-members-same-length : (t : ℕ) → flatten-members-lts.Need-same-length (flatten-members-calls t) (flatten-members-at t) flatten-members.Post flatten-members-Inv-loop flatten-members-μ-loop
 flatten-members-same-length t c = c .before .loop .inv .3
