@@ -7,8 +7,8 @@ use mathlib.Core.List.{List, [], _∷_, _++_, map, append-assoc, map-append}
 use mathlib.Core.Option.{Option, none, some}
 use native.Mathlib.Nat.{add-assoc, zero-sub, sub-zero, suc-sub-suc}
 use native.Mathlib.Omega.{arith}
-use lib.ListN.{length, take, length-append, length-map, length-take}
-use lib.Seq.{take-nil, take-length}
+use lib.ListN.{length, take, length-append, length-map}
+use lib.Seq.{take-nil, take-all, take-length}
 use Rattle.smtlib.specs.Lexicon.{bytes, all, visible, reservedWords}
 use Rattle.smtlib.specs.Read.{Command, Reading}
 use Rattle.smtlib.specs.Compose.{Writes}
@@ -33,7 +33,7 @@ use Rattle.horn_text.specs.Clauses.{HornClause, flatten-constraint, flat
 use Rattle.horn_text.specs.Clauses as clauses
 use Rattle.horn_text.specs.Script.{join, write-preds, write-guard-conjunction, write-negation, write-implication, write-forall, write-assert, write-comment, write-comments, opening, closing, partsOf, scriptOf}
 use Rattle.horn_text.specs.Commands.{predsSexp, guardsSexp, negationSexp, implicationSexp, forallSexp, assertionCommand, assertionsOf, declarationCommands, templatesOf, commandsOf, isAssertion, assertionsAmong}
-use Rattle.horn_text.specs.Theorems.{ScriptRead, ScriptFilled, FirstAssertions, AssertionsNumber}
+use Rattle.horn_text.specs.Theorems.{ScriptRead, ScriptFilled, FirstAssertions, AllAssertions, AssertionsNumber}
 use Rattle.horn_text.proofs.Places.{clauses-number}
 open Composition composition using (writes-nothing, writes-more, writes-blank, writes-comment, written-read)
 open SoundParts sound-parts using (none-left, none-right, none-both)
@@ -305,13 +305,13 @@ first-assertions names t n =
     rw (map-append (fill names) (declarationCommands env t), map-append (fill names) (map (assertionCommand env) (clausesOf t)))
     (passed (other refl (declarations-other names env t)) _ n ∙ rw e (asserted names env (clausesOf t) (n - suc (declarations t))))
 
-pub assertions-number : AssertionsNumber
-assertions-number names t =
+pub all-assertions : AllAssertions
+all-assertions names t =
     let env = declared (t .datatypes) in
     let n = length (commandsOf names t) in
-    let m = n - suc (declarations t) in
     let e : n ≡ suc (declarations t + (length (clausesOf t) + 1)) = simp (length-map, length-append) (omega arith) in
-    let g : length (take m (clausesOf t)) ≡ length (clausesOf t) = simp length-take (omega arith) in
-    let k : length (assertionsOf names env (take m (clausesOf t))) ≡ length (take m (clausesOf t)) = simp length-map in
-    ap (λ (cs : List Command). length (assertionsAmong cs)) (sym (take-length (commandsOf names t)))
-    ∙ ap length (first-assertions names t n) ∙ k ∙ g ∙ clauses-number t
+    ap assertionsAmong (sym (take-length (commandsOf names t)))
+    ∙ first-assertions names t n ∙ ap (assertionsOf names env) (take-all (n - suc (declarations t)) (clausesOf t) (omega arith))
+
+pub assertions-number : AssertionsNumber
+assertions-number names t = ap length (all-assertions names t) ∙ simp length-map (clauses-number t)

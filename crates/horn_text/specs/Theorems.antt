@@ -40,6 +40,10 @@ FirstAssertions =
     (names : NameTable) (t : Task) (n : ℕ)
     → assertionsAmong (take n (commandsOf names t)) ≡ assertionsOf names (declared (t .datatypes)) (take (n - suc (declarations t)) (clausesOf t))
 
+-- All assertions are those of all clauses. (proofs/Readings.antt: all-assertions)
+abbrev pub AllAssertions : Type 0
+AllAssertions = (names : NameTable) (t : Task) → assertionsAmong (commandsOf names t) ≡ assertionsOf names (declared (t .datatypes)) (clausesOf t)
+
 -- The clauses belong one to one and in order to the heads that are not literally true, each with the ForAlls that hold it.
 -- (proofs/Places.antt: clauses-placed)
 abbrev pub ClausesPlaced : Type 0

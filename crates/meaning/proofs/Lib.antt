@@ -1,0 +1,3 @@
+pub mod Captures
+pub mod Meaning
+pub mod Rows

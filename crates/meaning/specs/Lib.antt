@@ -1,0 +1,4 @@
+pub mod Interpretation
+pub mod Holds
+pub mod Theorems
+pub mod Table

@@ -1,0 +1,65 @@
+-- W-208. "For each accepted file and each interpretation, the tree holds if and only if every assertion holds." Proved in proofs/ under the names that stand behind.
+use Prim.Native.Nat.{ℕ, _≤_}
+use mathlib.Core.Path.{_≡_}
+use mathlib.Core.Bool.{true, false}
+use mathlib.Core.List.{List}
+use lib.ListN.{length, take}
+use Rattle.smtlib.specs.Lexicon.{isOne}
+use Rattle.smtlib.specs.Theorems.{OnlyReading}
+use Rattle.task.specs.Ast.{Pred, Constraint, Constraints, Task}
+use Rattle.task.specs.Decode.{got}
+use Rattle.task.specs.Names.{forAllNames, Each}
+use Rattle.task.specs.Task.{taskOf}
+use Rattle.smt_text.specs.Editions.{NameTable, Valid}
+use Rattle.smt_text.specs.Encoder.{declared}
+use Rattle.horn_text.specs.Clauses.{clausesOf}
+use Rattle.horn_text.specs.Script.{encoderOf, scriptOf}
+use Rattle.horn_text.specs.Commands.{commandsOf, assertionsOf, assertionsAmong}
+use Rattle.horn_text.specs.Answers.{scriptBuffer}
+use Rattle.meaning.specs.Interpretation.{isFree, Assignment, Interpretation, Lawful}
+use Rattle.meaning.specs.Holds.{treeHolds, assertionsHold}
+
+-- WHAT IT RESTS ON
+
+-- no name free in the predicate is the binder of a ForAll in the constraint
+abbrev pub Unbound : Constraint → Pred → Type 0
+Unbound c p = (x : List ℕ) → isFree x p ≡ true → isOne x (forAllNames c) ≡ false
+
+-- no name free in a predicate of a ForAll is the binder of a ForAll inside that one
+unfoldable mutual
+  pub Uncaptured : Constraint → Type 0
+  Uncaptured (Constraint.pred p) = Unit
+  Uncaptured (Constraint.conj cs) = AllUncaptured cs
+  Uncaptured (Constraint.forAll x b ps c) = Each (Unbound c) ps × Uncaptured c
+
+  -- in constraints in a row
+  pub AllUncaptured : Constraints → Type 0
+  AllUncaptured Constraints.none = Unit
+  AllUncaptured (Constraints.more c cs) = Uncaptured c × AllUncaptured cs
+
+-- So it is in every accepted task, by refusals 7, 15 and 10. (proofs/Captures.antt: no-captures)
+abbrev pub NoCaptures : Type 0
+NoCaptures = (file : List ℕ) (t : Task) (end : ℕ) → taskOf file ≡ got t end → Uncaptured (t .constraint)
+
+-- THE THEOREM
+
+-- Whatever the values, the interpretation and the assignment to begin with, the tree holds exactly if every assertion does. Both are Booleans, so this is an equation.
+abbrev pub SameMeaning : NameTable → Task → Type 1
+SameMeaning names t =
+    (Value : Type 0) (i : Interpretation Value) → Lawful i → (a : Assignment Value)
+    → treeHolds i (encoderOf names t) (t .constraint) a ≡ assertionsHold i (encoderOf names t) (clausesOf t) a
+
+-- of a buffer at whose start the script of the task t stands
+pub record KeepsMeaning (names : NameTable) (t : Task) (buf : List ℕ) : Type 1 where
+  -- "An assertion is taken as demand three matches it": the script in the buffer is read as the commands that the task calls for, and in no other way,
+  pub reading : OnlyReading (take (length (scriptOf names t)) buf) (commandsOf names t)
+  -- and the assertions among them are, one to one and in order, those of these clauses.
+  pub clauses : assertionsAmong (commandsOf names t) ≡ assertionsOf names (declared (t .datatypes)) (clausesOf t)
+  -- The tree and these clauses mean the same.
+  pub meaning : SameMeaning names t
+
+-- For every accepted file, what `script` leaves in a buffer with room keeps the meaning. (proofs/Meaning.antt: flattening)
+abbrev pub Flattening : Type 1
+Flattening =
+    (names : NameTable) → Valid names → (file buf : List ℕ) (t : Task) (end : ℕ) → taskOf file ≡ got t end
+    → length (scriptOf names t) ≤ length buf → KeepsMeaning names t (scriptBuffer names file buf)
