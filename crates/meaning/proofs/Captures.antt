@@ -56,15 +56,15 @@ mutual
 -- FREE NAMES
 
 module _ (t : Task) where
-  -- a name that a task declares or that is one of the others
-  abbrev Or : List (List ℕ) → List ℕ → Type 0
-  Or around x = (isOne x (takenNames t) || isOne x around) ≡ true
+  -- a name that the task declares, or that of a ForAll around
+  abbrev Bound : List (List ℕ) → List ℕ → Type 0
+  Bound around x = (isOne x (takenNames t) || isOne x around) ≡ true
 
-  -- each of the known names is so
-  abbrev Known : List (List ℕ) → List (List ℕ) → Type 0
-  Known known around = (x : List ℕ) → isOne x known ≡ true → Or around x
+  -- the known names are such
+  abbrev AllBound : List (List ℕ) → List (List ℕ) → Type 0
+  AllBound known around = (x : List ℕ) → isOne x known ≡ true → Bound around x
 
-  in-constraint : Known (inConstraint t) []
+  in-constraint : AllBound (inConstraint t) []
   unfolding inConstraint everywhere takenNames
   in-constraint x h =
       let ds = datatypesTake (t .datatypes) in
@@ -81,7 +81,7 @@ module _ (t : Task) where
       go false false false k e = clash (cc)
 
   -- with one more name both ways
-  one-more : (known around : List (List ℕ)) (y : List ℕ) → Known known around → Known (known ++ y ∷ []) (around ++ y ∷ [])
+  one-more : (known around : List (List ℕ)) (y : List ℕ) → AllBound known around → AllBound (known ++ y ∷ []) (around ++ y ∷ [])
   one-more known around y f x h =
       rw (one-append x around (y ∷ [])) (
       go (isOne x known) (isOne x (y ∷ [])) (isOne x (takenNames t)) (isOne x around) (f x) (sym (one-append x known (y ∷ [])) ∙ h))
@@ -92,18 +92,18 @@ module _ (t : Task) where
       go true b false false f e = clash (let z = f refl in cc)
       go false b false false f e = e
 
-  module _ (known around : List (List ℕ)) (k : Known known around) where
-    taken : (x : List ℕ) → isOne x (takenNames t) ≡ true → Or around x
+  module _ (known around : List (List ℕ)) (k : AllBound known around) where
+    taken : (x : List ℕ) → isOne x (takenNames t) ≡ true → Bound around x
     taken x h = first _ (isOne x around) h
 
-    tested : (x : List ℕ) → isOne x (declaredBy true (t .datatypes)) ≡ true → Or around x
+    tested : (x : List ℕ) → isOne x (declaredBy true (t .datatypes)) ≡ true → Bound around x
     tested x h = taken x (one-taken x t ∙ rw h)
 
-    closed : {p q : List ℕ → Bool} → Closed p q (declaredBy true (t .datatypes)) known → (x : List ℕ) → (p x || q x) ≡ true → Or around x
+    closed : {p q : List ℕ → Bool} → Closed p q (declaredBy true (t .datatypes)) known → (x : List ℕ) → (p x || q x) ≡ true → Bound around x
     closed {p} {q} c x h = ⊎-elim (λ g. k x (c .free x (is-true _ g))) (λ g. tested x (c .tested x (is-true _ g))) (either (p x) (q x) (true-holds h))
 
     -- a KVar's name is declared
-    a-kvar : (x : List ℕ) → isOne x (map (λ d. d .kvid) (t .kvars)) ≡ true → Or around x
+    a-kvar : (x : List ℕ) → isOne x (map (λ d. d .kvid) (t .kvars)) ≡ true → Bound around x
     a-kvar x h =
         let cs = isOne x (declaredBy true (t .datatypes)) in
         let fs = isOne x (fieldNames (t .datatypes)) in
@@ -112,7 +112,7 @@ module _ (t : Task) where
         taken x (one-taken x t ∙ second (cs || fs) _ (second ns _ (second gs _ h)))
 
     -- the names free in a predicate whose names are known
-    free-known : (p : Pred) → PredClosed t known p → (x : List ℕ) → isFree x p ≡ true → Or around x
+    free-known : (p : Pred) → PredClosed t known p → (x : List ℕ) → isFree x p ≡ true → Bound around x
     free-known (Pred.kvar n es) c x h =
         ⊎-elim (λ g. let z : x ≡ n = same→eq x n g in rw z (a-kvar n (c .0))) (λ g. closed (c .1) x (is-true _ g))
         (either (same x n) (freeAmong x es || testedAmong x es) (true-holds h))
@@ -125,7 +125,7 @@ module _ (t : Task) where
   mutual
     unfolding constraintFault forAllNames EachPred Uncaptured
 
-    uncaptured : (known around : List (List ℕ)) (c : Constraint) → Known known around
+    uncaptured : (known around : List (List ℕ)) (c : Constraint) → AllBound known around
         → ((x : List ℕ) → isOne x (forAllNames c) ≡ true → isOne x (takenNames t) ≡ false)
         → constraintFault around c ≡ Sound → EachPred (PredClosed t) known c → Uncaptured c
     uncaptured known around (Constraint.pred p) k d s e = tt
@@ -142,7 +142,7 @@ module _ (t : Task) where
           uncaptured (known ++ y ∷ []) (around ++ y ∷ []) c more free inner (e .1),
         )
 
-    all-uncaptured : (known around : List (List ℕ)) (cs : Constraints) → Known known around
+    all-uncaptured : (known around : List (List ℕ)) (cs : Constraints) → AllBound known around
         → ((x : List ℕ) → isOne x (forAllsIn cs) ≡ true → isOne x (takenNames t) ≡ false)
         → constraintsFault around cs ≡ Sound → EachPreds (PredClosed t) known cs → AllUncaptured cs
     all-uncaptured known around Constraints.none k d s e = tt

@@ -1,4 +1,4 @@
--- The tree and the assertions mean the same: `flattening`.
+-- The tree and the assertions mean the same: `flattening`; and the assertions are those of the script: `script-meaning`.
 use Prim.Native.Nat.{ℕ}
 use mathlib.Core.Path.{_≡_, refl, sym, ap, _∙_, subst, fun-ext}
 use mathlib.Core.Bool.{Bool, true, false, cond, not, _&&_, and-true, and-assoc}
@@ -9,13 +9,11 @@ use lib.Seq.{take-length}
 use Rattle.smtlib.specs.Lexicon.{same, isOne}
 use Rattle.smtlib.specs.Theorems.{OnlyReading}
 use Rattle.smtlib.proofs.Bools.{clash}
-use Rattle.task.specs.Ast.{Binder, Constant, Expr, Pred, Constraint, Constraints, Task}
-use Rattle.task.specs.Decode.{got}
+use Rattle.task.specs.Ast.{Binder, Constant, Expr, Pred, Constraint, Constraints}
 use Rattle.task.specs.Names.{forAllNames, forAllsIn, Each}
 use Rattle.task.specs.Returns.{every}
-use Rattle.task.specs.Task.{literallyTrue, taskOf}
+use Rattle.task.specs.Task.{literallyTrue}
 use Rattle.task.proofs.Members.{none-first, none-second, one-append}
-use Rattle.smt_text.specs.Editions.{NameTable}
 use Rattle.smt_text.specs.Encoder.{Encoder}
 use Rattle.smt_text.specs.Text.{write-sort}
 use Rattle.horn_text.specs.Clauses.{kept, flatten-constraint, flatten-constraints}
@@ -27,7 +25,7 @@ use Rattle.horn_text.proofs.Readings.{all-assertions}
 use Rattle.horn_text.proofs.Demands.{demand3}
 use Rattle.meaning.specs.Interpretation.{isFree, Assignment, assign, Interpretation, Lawful}
 use Rattle.meaning.specs.Holds.{implies, allTrue, treeHolds, treesHold, forAllValues, implication, assertionHolds, assertionsHold}
-use Rattle.meaning.specs.Theorems.{Unbound, Uncaptured, AllUncaptured, SameMeaning, Flattening}
+use Rattle.meaning.specs.Theorems.{Unbound, Uncaptured, AllUncaptured, Flattening, ScriptMeaning}
 use Rattle.meaning.proofs.Captures.{each-map, no-captures}
 
 -- TESTS OF EACH MEMBER OF A LIST
@@ -189,7 +187,10 @@ module _ {Value : Type 0} (i : Interpretation Value) (l : Lawful i) (enc : Encod
     flat (Constraint.forAll x b ps c) vars gs a u k =
         let inner : Each (Unbound c) (gs ++ kept ps) = each-append (Unbound c) gs (kept ps) (each-map (λ p h y f. none-second (same y x) _ (h y f)) gs u) (each-kept (Unbound c) ps (k .0)) in
         let outer = each-map {Q = λ p. (y : List ℕ) → isFree y p ≡ true → same y x ≡ false} (λ p h y f. none-first (same y x) _ (h y f)) gs u in
-        values-same vars a (λ d. set-behind x gs ps (treeHolds i enc c) (i .values (write-sort enc b)) d outer) ∙ sym (values-snoc vars (record { name = x; sort = b }) _ a) ∙ flat c (vars ++ record { name = x; sort = b } ∷ []) (gs ++ kept ps) a inner (k .1)
+        let binder : Binder = record { name = x; sort = b } in
+        values-same vars a (λ d. set-behind x gs ps (treeHolds i enc c) (i .values (write-sort enc b)) d outer)
+        ∙ sym (values-snoc vars binder _ a)
+        ∙ flat c (vars ++ binder ∷ []) (gs ++ kept ps) a inner (k .1)
 
     flats : (cs : Constraints) (vars : List Binder) (gs : List Pred) (a : Assignment Value) → Each (Unbound (Constraint.conj cs)) gs → AllUncaptured cs
         → forAllValues i enc vars (λ b. implies (allTrue i gs b) (treesHold i enc cs b)) a ≡ assertionsHold i enc (flatten-constraints cs vars gs) a
@@ -201,17 +202,16 @@ module _ {Value : Type 0} (i : Interpretation Value) (l : Lawful i) (enc : Encod
         ∙ values-and vars (λ b. implies (allTrue i gs b) (treeHolds i enc c b)) (λ b. implies (allTrue i gs b) (treesHold i enc cs b)) a
         ∙ rw (flat c vars gs a one (k .0), flats cs vars gs a rest (k .1)) (sym (every-append _ (flatten-constraint c vars gs) (flatten-constraints cs vars gs)))
 
--- of a whole task
-same-meaning : (names : NameTable) (file : List ℕ) (t : Task) (end : ℕ) → taskOf file ≡ got t end → SameMeaning names t
-same-meaning names file t end e Value i l a = flat i l (encoderOf names t) (t .constraint) [] [] a tt (no-captures file t end e)
-
 pub flattening : Flattening
+flattening names file t end e Value i l a = flat i l (encoderOf names t) (t .constraint) [] [] a tt (no-captures file t end e)
+
+pub script-meaning : ScriptMeaning
 unfolding Promised
-flattening names v file buf t end e room =
+script-meaning names v file buf t end e room =
     let c : Carries names t (scriptBuffer names file buf) = demand3 names v file buf t end e room in
-    let r = c .cut (length (scriptOf names t)) (le-refl _) (c .last) in
+    let text = take (length (scriptOf names t)) (scriptBuffer names file buf) in
     record {
-      reading = subst (OnlyReading (take (length (scriptOf names t)) (scriptBuffer names file buf))) (rw (c .complete) (take-length (commandsOf names t))) r;
+      reading = subst (OnlyReading text) (rw (c .complete) (take-length (commandsOf names t))) (c .cut (length (scriptOf names t)) (le-refl _) (c .last));
       clauses = all-assertions names t;
-      meaning = same-meaning names file t end e;
+      meaning = flattening names file t end e;
     }

@@ -49,17 +49,23 @@ SameMeaning names t =
     (Value : Type 0) (i : Interpretation Value) → Lawful i → (a : Assignment Value)
     → treeHolds i (encoderOf names t) (t .constraint) a ≡ assertionsHold i (encoderOf names t) (clausesOf t) a
 
+-- So it is in every accepted task, whatever the table of names. (proofs/Meaning.antt: flattening)
+abbrev pub Flattening : Type 1
+Flattening = (names : NameTable) (file : List ℕ) (t : Task) (end : ℕ) → taskOf file ≡ got t end → SameMeaning names t
+
+-- OF THE SCRIPT
+
 -- of a buffer at whose start the script of the task t stands
 pub record KeepsMeaning (names : NameTable) (t : Task) (buf : List ℕ) : Type 1 where
   -- "An assertion is taken as demand three matches it": the script in the buffer is read as the commands that the task calls for, and in no other way,
   pub reading : OnlyReading (take (length (scriptOf names t)) buf) (commandsOf names t)
-  -- and the assertions among them are, one to one and in order, those of these clauses.
+  -- the assertions among these are, one to one and in order, those of the clauses,
   pub clauses : assertionsAmong (commandsOf names t) ≡ assertionsOf names (declared (t .datatypes)) (clausesOf t)
-  -- The tree and these clauses mean the same.
+  -- and the tree means the same as the clauses.
   pub meaning : SameMeaning names t
 
--- For every accepted file, what `script` leaves in a buffer with room keeps the meaning. (proofs/Meaning.antt: flattening)
-abbrev pub Flattening : Type 1
-Flattening =
+-- So does what `script` leaves for an accepted file in every buffer with room. (proofs/Meaning.antt: script-meaning)
+abbrev pub ScriptMeaning : Type 1
+ScriptMeaning =
     (names : NameTable) → Valid names → (file buf : List ℕ) (t : Task) (end : ℕ) → taskOf file ≡ got t end
     → length (scriptOf names t) ≤ length buf → KeepsMeaning names t (scriptBuffer names file buf)
