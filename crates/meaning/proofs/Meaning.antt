@@ -25,7 +25,7 @@ use Rattle.horn_text.proofs.Readings.{all-assertions}
 use Rattle.horn_text.proofs.Demands.{demand3}
 use Rattle.meaning.specs.Interpretation.{isFree, Assignment, assign, Interpretation, Lawful}
 use Rattle.meaning.specs.Holds.{implies, allTrue, treeHolds, treesHold, forAllValues, implication, assertionHolds, assertionsHold}
-use Rattle.meaning.specs.Theorems.{Unbound, Uncaptured, AllUncaptured, Flattening, ScriptMeaning}
+use Rattle.meaning.specs.Theorems.{Unbound, Uncaptured, AllUncaptured, UncapturedMeaning, Flattening, ScriptMeaning}
 use Rattle.meaning.proofs.Captures.{each-map, no-captures}
 
 -- TESTS OF EACH MEMBER OF A LIST
@@ -202,8 +202,11 @@ module _ {Value : Type 0} (i : Interpretation Value) (l : Lawful i) (enc : Encod
         ∙ values-and vars (λ b. implies (allTrue i gs b) (treeHolds i enc c b)) (λ b. implies (allTrue i gs b) (treesHold i enc cs b)) a
         ∙ rw (flat c vars gs a one (k .0), flats cs vars gs a rest (k .1)) (sym (every-append _ (flatten-constraint c vars gs) (flatten-constraints cs vars gs)))
 
+pub uncaptured-meaning : UncapturedMeaning
+uncaptured-meaning names t u Value i l a = flat i l (encoderOf names t) (t .constraint) [] [] a tt u
+
 pub flattening : Flattening
-flattening names file t end e Value i l a = flat i l (encoderOf names t) (t .constraint) [] [] a tt (no-captures file t end e)
+flattening names file t end e = uncaptured-meaning names t (no-captures file t end e)
 
 pub script-meaning : ScriptMeaning
 unfolding Promised

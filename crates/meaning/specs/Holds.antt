@@ -47,7 +47,7 @@ module _ {Value : Type 0} (i : Interpretation Value) where
     forAllValues [] holds a = holds a
     forAllValues (b ∷ bs) holds a = every (λ v. forAllValues bs holds (assign a (b .name) v)) (i .values (write-sort enc (b .sort)))
 
-    -- an assertion, from its clause
+    -- an assertion, from its clause as demand 3 matches it: how names are spelled plays no part
     unfoldable pub assertionHolds : HornClause → Assignment Value → Bool
     assertionHolds c a = forAllValues (c .vars) (implication (c .guards) (c .head)) a
 

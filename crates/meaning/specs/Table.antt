@@ -3,7 +3,7 @@ use Prim.Native.Nat.{ℕ}
 use Prim.Native.String.{String}
 use mathlib.Core.Path.{_≡_}
 use mathlib.Core.Bool.{Bool, true, false, cond, not, _&&_, _||_}
-use mathlib.Core.List.{List, [], _∷_, _++_, map}
+use mathlib.Core.List.{List, [], _∷_, _++_}
 use mathlib.Core.Option.{Option, none, some}
 use lib.Dec.{T}
 use Rattle.smtlib.specs.Lexicon.{bytes, same}
@@ -27,14 +27,14 @@ use Rattle.meaning.specs.Holds.{treeHolds, assertionsHold}
 abbrev pub valuesOf : List ℕ → List Bool
 valuesOf w = cond (same w (bytes "Bool")) (false ∷ true ∷ []) (cond (same w (bytes "Int")) (true ∷ []) [])
 
--- a value is true; where there is none it is not
-abbrev pub isSet : Option Bool → Bool
-isSet none = false
-isSet (some b) = b
+-- a name has the value true
+abbrev pub valueTrue : Option Bool → Bool
+valueTrue none = false
+valueTrue (some b) = b
 
 -- A predicate is true if it is literally true, or if the name y is free in it and has the value true.
 abbrev pub byY : Interpretation Bool
-byY = record { values = valuesOf; truth = λ p a. literallyTrue p || (isFree (bytes "y") p && isSet (a (bytes "y"))) }
+byY = record { values = valuesOf; truth = λ p a. literallyTrue p || (isFree (bytes "y") p && valueTrue (a (bytes "y"))) }
 
 -- to begin with y is true, and no other name has a value
 abbrev pub yTrue : Assignment Bool
@@ -82,19 +82,26 @@ bothOf c d = Constraint.conj (Constraints.more c (Constraints.more d Constraints
 abbrev pub headIs : String → Constraint
 headIs x = Constraint.pred (is x)
 
+-- a KVar of a Var as a head
+abbrev pub headKVar : String → String → Constraint
+headKVar k x = Constraint.pred (kvarOf k (varOf x))
+
 -- false as a head
 abbrev pub headFalse : Constraint
 headFalse = Constraint.pred (Pred.expr (boolean false))
 
--- Predicates in which y is free: a Var; a KVar of that name, and one with that argument; a constructor that is tested for, and what is tested; the first operand of a Let y, and the
--- second of a Let z; the body of a Quantifier over z.
+-- FREE NAMES
+
+-- Predicates in which y is free: a Var; a KVar of that name, and one with that argument; a constructor that is tested for, also in an argument of a KVar, and what is tested; the first
+-- operand of a Let y, and the second of a Let z; the body of a Quantifier over z.
 abbrev pub withY : List Pred
 withY =
     is "y" ∷
     kvarOf "y" (varOf "z") ∷
     kvarOf "k" (varOf "y") ∷
     Pred.expr (Expr.isCtor (bytes "y") (varOf "z")) ∷
-    Pred.expr (Expr.isCtor (bytes "z") (varOf "y")) ∷
+    kvarOf "k" (Expr.isCtor (bytes "y") (varOf "z")) ∷
+    Pred.expr (Expr.isCtor (bytes "c") (varOf "y")) ∷
     Pred.expr (Expr.letIn (bytes "y") (varOf "y") (boolean true)) ∷
     Pred.expr (Expr.letIn (bytes "z") (boolean true) (varOf "y")) ∷
     Pred.expr (Expr.quantifier Forall (ofBool "z" ∷ []) (varOf "y")) ∷
@@ -110,38 +117,49 @@ withoutY =
     Pred.expr (Expr.quantifier Forall (ofBool "y" ∷ []) (varOf "y")) ∷
     []
 
--- Trees that hold. Without heads: a Conj of none, and a literally true head. y, which is true to begin with. For the sort String, which has no values: false. For Int: y, and the KVar k of y; so for a Data sort that
--- no datatype declares, which is written Int. For Bool: y under its own guard, and under that of a ForAll further out. Of two ForAlls y the inner one's value counts.
-abbrev pub holdingTrees : List Constraint
-holdingTrees =
-    Constraint.conj Constraints.none ∷
-    Constraint.pred (Pred.expr (boolean true)) ∷
-    headIs "y" ∷
-    forAllOf "z" Sort.str [] headFalse ∷
-    forAllOf "y" Sort.int [] (headIs "y") ∷
-    forAllOf "y" Sort.int [] (Constraint.pred (kvarOf "k" (varOf "y"))) ∷
-    forAllOf "y" (Sort.app (SortCtor.named (bytes "D")) Sorts.none) [] (headIs "y") ∷
-    forAllOf "y" Sort.bool (is "y" ∷ []) (headIs "y") ∷
-    forAllOf "y" Sort.bool (is "y" ∷ []) (forAllOf "z" Sort.int [] (headIs "y")) ∷
-    forAllOf "y" Sort.bool [] (forAllOf "y" Sort.int [] (headIs "y")) ∷
-    []
+-- WHAT SMALL TREES MEAN
 
--- And some that do not: false, also for Int, and under a guard that is true for one of the values of Bool. For Bool without a guard, and with a literally true one: y, and the KVar k of y. A Conj of two of which the
--- second does not hold: false, and y behind a ForAll whose guard it is.
-abbrev pub failingTrees : List Constraint
-failingTrees =
-    headFalse ∷
-    forAllOf "z" Sort.int [] headFalse ∷
-    forAllOf "y" Sort.bool (is "y" ∷ []) headFalse ∷
-    forAllOf "y" Sort.bool [] (headIs "y") ∷
-    forAllOf "y" Sort.bool (Pred.expr (boolean true) ∷ []) (Constraint.pred (kvarOf "k" (varOf "y"))) ∷
-    bothOf (headIs "y") headFalse ∷
-    forAllOf "y" Sort.bool [] (bothOf (forAllOf "z" Sort.int (is "y" ∷ []) (headIs "y")) (headIs "y")) ∷
-    []
+-- a tree holds, or does not, and so do its assertions, whatever the table of names
+abbrev pub Means : Constraint → Bool → Type 0
+Means c b = (names : NameTable) → meanings names (taskWith [] c) ≡ (b, b)
 
--- each tree and its assertions have these truths, whatever the table of names
-abbrev pub Mean : Bool × Bool → List Constraint → Type 0
-Mean truths cs = (names : NameTable) → map (λ c. meanings names (taskWith [] c)) cs ≡ map (λ c. truths) cs
+-- in a task that declares nothing (proofs/Rows.antt: trees)
+pub record Trees : Type 0 where
+  -- without heads: a Conj without members, a head that is literally true, and one under a ForAll
+  pub no-members : Means (Constraint.conj Constraints.none) true
+  pub true-head : Means (Constraint.pred (Pred.expr (boolean true))) true
+  pub true-below : Means (forAllOf "y" Sort.bool [] (Constraint.pred (Pred.expr (boolean true)))) true
+  -- a head alone: y is true to begin with, false is not
+  pub head : Means (headIs "y") true
+  pub false-head : Means headFalse false
+  -- each member of a Conj counts
+  pub members : Means (bothOf (headIs "y") (headIs "y")) true
+  pub first-fails : Means (bothOf headFalse (headIs "y")) false
+  pub second-fails : Means (bothOf (headIs "y") headFalse) false
+  -- for a sort without values everything holds, for one that has values false does not
+  pub no-values : Means (forAllOf "z" Sort.str [] headFalse) true
+  pub one-value : Means (forAllOf "z" Sort.int [] headFalse) false
+  -- all values count: one of Bool is false, that of Int is true
+  pub all-values : Means (forAllOf "y" Sort.bool [] (headIs "y")) false
+  pub true-values : Means (forAllOf "y" Sort.int [] (headIs "y")) true
+  -- a Data sort that no datatype declares is written Int, and has its values
+  pub undeclared : Means (forAllOf "y" (Sort.app (SortCtor.named (bytes "D")) Sorts.none) [] (headIs "y")) true
+  -- a binder's value is that of no other name
+  pub other-name : Means (forAllOf "z" Sort.bool [] (headIs "y")) true
+  -- of two ForAlls of one name the inner one's value counts
+  pub inner-value : Means (forAllOf "y" Sort.bool [] (forAllOf "y" Sort.int [] (headIs "y"))) true
+  -- a guard sees its own ForAll's value; it excludes values, and not all of them
+  pub guard : Means (forAllOf "y" Sort.bool (is "y" ∷ []) (headIs "y")) true
+  pub guard-fails : Means (forAllOf "y" Sort.bool (is "y" ∷ []) headFalse) false
+  -- one that is literally true excludes none
+  pub true-guard : Means (forAllOf "y" Sort.bool (Pred.expr (boolean true) ∷ []) (headIs "y")) false
+  -- it holds in ForAlls further in, and not in the next member
+  pub guard-further-in : Means (forAllOf "y" Sort.bool (is "y" ∷ []) (forAllOf "z" Sort.bool [] (headIs "y"))) true
+  pub guard-left : Means (forAllOf "y" Sort.bool [] (bothOf (forAllOf "z" Sort.bool (is "y" ∷ []) (headIs "y")) (headIs "y"))) false
+  -- so with a KVar as head
+  pub kvar : Means (forAllOf "y" Sort.int [] (headKVar "k" "y")) true
+  pub kvar-fails : Means (forAllOf "y" Sort.bool [] (headKVar "k" "y")) false
+  pub kvar-guard : Means (forAllOf "y" Sort.bool (is "y" ∷ []) (headKVar "k" "y")) true
 
 -- WHY THE REFUSALS ARE THERE
 
@@ -164,7 +182,7 @@ clashingTask = taskWith (ofBool "y" ∷ []) (captures "x")
 abbrev pub unknownTask : Task
 unknownTask = taskWith [] (captures "x")
 
--- A file that survey refuses with this number, what its bytes decode to, and that its assertions hold where its tree does not: a solver would answer sat to a broken check.
+-- A file that survey refuses with this number, what its bytes decode to, and that the assertions of that would hold where the tree does not.
 pub record Differs (number : ℕ) (file : List ℕ) (t : Task) : Type 0 where
   pub survey : (names : NameTable) → surveyAnswer names file ≡ refused number
   pub task : decoded file ≡ got t (trailerAt file)
@@ -178,9 +196,8 @@ pub record Table : Type 0 where
   pub not-free : T (every (λ p. not (isFree (bytes "y") p)) withoutY)
   -- both laws hold of the interpretation
   pub lawful : Lawful byY
-  -- the trees and their assertions
-  pub holding : Mean (true, true) holdingTrees
-  pub failing : Mean (false, false) failingTrees
+  -- what small trees mean
+  pub trees : Trees
   -- 7, and none of 15, 10 and 11; those that are judged before 7 would have been answered
   pub repeated : Differs 7 (fileOf [] [] (capturesBytes "y")) repeatedTask
   pub repeated-alone : NamesHold repeatedTask

@@ -1,4 +1,5 @@
--- W-208. "For each accepted file and each interpretation, the tree holds if and only if every assertion holds." Proved in proofs/ under the names that stand behind.
+-- W-208. "For each accepted file and each interpretation, the tree holds if and only if every assertion holds." Each statement is proved in proofs/ under
+-- the name that stands behind it.
 use Prim.Native.Nat.{ℕ, _≤_}
 use mathlib.Core.Path.{_≡_}
 use mathlib.Core.Bool.{true, false}
@@ -49,7 +50,11 @@ SameMeaning names t =
     (Value : Type 0) (i : Interpretation Value) → Lawful i → (a : Assignment Value)
     → treeHolds i (encoderOf names t) (t .constraint) a ≡ assertionsHold i (encoderOf names t) (clausesOf t) a
 
--- So it is in every accepted task, whatever the table of names. (proofs/Meaning.antt: flattening)
+-- So it is in every task in which nothing is captured, whatever else is at fault in it. (proofs/Meaning.antt: uncaptured-meaning)
+abbrev pub UncapturedMeaning : Type 1
+UncapturedMeaning = (names : NameTable) (t : Task) → Uncaptured (t .constraint) → SameMeaning names t
+
+-- And so it is in every accepted task, whatever the table of names. (proofs/Meaning.antt: flattening)
 abbrev pub Flattening : Type 1
 Flattening = (names : NameTable) (file : List ℕ) (t : Task) (end : ℕ) → taskOf file ≡ got t end → SameMeaning names t
 
