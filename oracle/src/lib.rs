@@ -5,6 +5,7 @@ pub mod check;
 pub mod draft;
 pub mod faults;
 pub mod limits;
+pub mod meaning;
 pub mod returns;
 pub mod runs;
 pub mod scope;
@@ -16,7 +17,7 @@ pub mod words;
 
 #[cfg(test)]
 mod tests {
-    use super::{chance::*, check::*, faults::*, limits::*, runs::*, shrink::*, task::*, text::*, words::*};
+    use super::{chance::*, check::*, faults::*, limits::*, meaning::*, runs::*, shrink::*, task::*, text::*, words::*};
     use std::collections::HashSet;
 
     const EACH: usize = 300;
@@ -77,6 +78,31 @@ mod tests {
     #[test]
     fn reserved_words_are_found() {
         assert!(RESERVED.is_sorted() && RESERVED.iter().all(|word| !is_symbol(word.as_bytes())) && is_symbol(b"asserts"));
+    }
+
+    /// What tree and assertions are in some interpretations with up to two values a sort.
+    fn meanings(file: &[u8]) -> HashSet<(bool, bool)> {
+        let task = decoded(file).expect("a task");
+        let mut meaning = Meaning::new(&task);
+        (1..1_000).map(|seed| meaning.holds(Draw { seed, values: 3, odds: 2 })).collect()
+    }
+
+    #[test]
+    fn flattening_keeps_the_meaning() {
+        let same = HashSet::from([(true, true), (false, false)]);
+        assert_eq!(meanings(&packed(S)), same);
+        assert_eq!(meanings(&packed("h: 1 #0")), HashSet::from([(true, true)]));
+        assert_eq!(meanings(&packed("h: 2 'x 1 #1 1 5 'x 2 'y 1 #0 0 1 5 'y")), same);
+    }
+
+    #[test]
+    fn what_7_15_and_10_refuse_can_mean_something_else() {
+        let captured = "1 #1 1 5 'y 2 'y 1 #0 0 1 5 'y";
+        for (refusal, words) in [(7, format!("h: 2 'y {captured}")), (15, format!("k: 'y 1 h: 2 'x {captured}")), (10, format!("h: 2 'x {captured}"))] {
+            let file = packed(&words);
+            assert!(noted(&file) == Ok(vec![refusal]) && captures(&decoded(&file).expect("a task").constraint));
+            assert!(meanings(&file).contains(&(false, true)), "{refusal}");
+        }
     }
 
     #[test]

@@ -110,10 +110,10 @@ fn sexp_list<T>(out: &mut String, items: impl IntoIterator<Item = T>, mut write_
 }
 
 /// Knows the edition, and what the datatype section declares: names of constructors and names of sorts.
-struct SmtEncoder<'a> { edition: Edition, constructors: HashSet<&'a str>, datatypes: HashSet<&'a str> }
+pub(crate) struct SmtEncoder<'a> { edition: Edition, constructors: HashSet<&'a str>, datatypes: HashSet<&'a str> }
 
 impl<'a> SmtEncoder<'a> {
-    fn new(datatypes: &[Datatype<'a>], edition: Edition) -> Self {
+    pub fn new(datatypes: &[Datatype<'a>], edition: Edition) -> Self {
         let constructors = datatypes.iter().flat_map(|datatype| datatype.ctors.iter().map(|ctor| ctor.name)).collect();
         SmtEncoder { edition, constructors, datatypes: datatypes.iter().map(|datatype| datatype.name).collect() }
     }
@@ -179,7 +179,7 @@ impl<'a> SmtEncoder<'a> {
         out.push_str(")\n");
     }
 
-    fn write_sort(&self, out: &mut String, sort: &Sort) {
+    pub fn write_sort(&self, out: &mut String, sort: &Sort) {
         match sort {
             Sort::Int => out.push_str("Int"),
             Sort::Bool => out.push_str("Bool"),
@@ -213,7 +213,7 @@ impl<'a> SmtEncoder<'a> {
         }
     }
 
-    fn write_pred(&self, out: &mut String, pred: &Pred) {
+    pub fn write_pred(&self, out: &mut String, pred: &Pred) {
         match pred {
             Pred::Expr(e) => self.write_expr(out, e),
             Pred::KVar(name, args) => self.write_applied(out, args, |out| out.push_str(name)),
@@ -334,7 +334,7 @@ fn write_sort_ctor(out: &mut String, ctor: &SortCtor) {
 // ---- Assertions and the whole script
 
 /// A head with the binders and the guards of the ForAlls around it.
-struct HornClause<'t, 'a> { vars: Vec<&'t Binder<'a>>, guards: Vec<&'t Pred<'a>>, head: &'t Pred<'a> }
+pub(crate) struct HornClause<'t, 'a> { pub vars: Vec<&'t Binder<'a>>, pub guards: Vec<&'t Pred<'a>>, pub head: &'t Pred<'a> }
 
 fn flatten_constraint<'t, 'a>(
     constraint: &'t Constraint<'a>, vars: &mut Vec<&'t Binder<'a>>, guards: &mut Vec<&'t Pred<'a>>, clauses: &mut Vec<HornClause<'t, 'a>>,
@@ -352,6 +352,13 @@ fn flatten_constraint<'t, 'a>(
         Constraint::Pred(head) if head.is_trivially_true() => {}
         Constraint::Pred(head) => clauses.push(HornClause { vars: vars.clone(), guards: guards.clone(), head }),
     }
+}
+
+/// The clauses of a constraint, in the order of the heads.
+pub(crate) fn clauses<'t, 'a>(constraint: &'t Constraint<'a>) -> Vec<HornClause<'t, 'a>> {
+    let mut clauses = Vec::new();
+    flatten_constraint(constraint, &mut Vec::new(), &mut Vec::new(), &mut clauses);
+    clauses
 }
 
 impl SmtEncoder<'_> {
@@ -434,8 +441,7 @@ pub fn write_smt_horn(task: &Task, edition: Edition) -> Rendering {
     out.push('\n');
     ends.push(out.len());
 
-    let mut clauses = Vec::new();
-    flatten_constraint(&task.constraint, &mut Vec::new(), &mut Vec::new(), &mut clauses);
+    let clauses = clauses(&task.constraint);
     for clause in &clauses {
         encoder.write_assert(&mut out, clause);
         ends.push(out.len());

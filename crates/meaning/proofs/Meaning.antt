@@ -25,7 +25,8 @@ use Rattle.horn_text.proofs.Readings.{all-assertions}
 use Rattle.horn_text.proofs.Demands.{demand3}
 use Rattle.meaning.specs.Interpretation.{isFree, Assignment, assign, Interpretation, Lawful}
 use Rattle.meaning.specs.Holds.{implies, allTrue, treeHolds, treesHold, forAllValues, implication, assertionHolds, assertionsHold}
-use Rattle.meaning.specs.Theorems.{Unbound, Uncaptured, AllUncaptured, UncapturedMeaning, Flattening, ScriptMeaning}
+use Rattle.meaning.specs.Theorems.{Unbound, Uncaptured, AllUncaptured, UncapturedMeaning, Flattening}
+use Rattle.meaning.specs.Script.{ScriptMeaning}
 use Rattle.meaning.proofs.Captures.{each-map, no-captures}
 
 -- TESTS OF EACH MEMBER OF A LIST

@@ -1,4 +1,5 @@
 pub mod Interpretation
 pub mod Holds
 pub mod Theorems
+pub mod Script
 pub mod Table

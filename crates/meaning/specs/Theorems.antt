@@ -1,22 +1,17 @@
 -- W-208. "For each accepted file and each interpretation, the tree holds if and only if every assertion holds." Each statement is proved in proofs/ under
 -- the name that stands behind it.
-use Prim.Native.Nat.{ℕ, _≤_}
+use Prim.Native.Nat.{ℕ}
 use mathlib.Core.Path.{_≡_}
 use mathlib.Core.Bool.{true, false}
 use mathlib.Core.List.{List}
-use lib.ListN.{length, take}
 use Rattle.smtlib.specs.Lexicon.{isOne}
-use Rattle.smtlib.specs.Theorems.{OnlyReading}
 use Rattle.task.specs.Ast.{Pred, Constraint, Constraints, Task}
 use Rattle.task.specs.Decode.{got}
 use Rattle.task.specs.Names.{forAllNames, Each}
 use Rattle.task.specs.Task.{taskOf}
-use Rattle.smt_text.specs.Editions.{NameTable, Valid}
-use Rattle.smt_text.specs.Encoder.{declared}
+use Rattle.smt_text.specs.Editions.{NameTable}
 use Rattle.horn_text.specs.Clauses.{clausesOf}
-use Rattle.horn_text.specs.Script.{encoderOf, scriptOf}
-use Rattle.horn_text.specs.Commands.{commandsOf, assertionsOf, assertionsAmong}
-use Rattle.horn_text.specs.Answers.{scriptBuffer}
+use Rattle.horn_text.specs.Script.{encoderOf}
 use Rattle.meaning.specs.Interpretation.{isFree, Assignment, Interpretation, Lawful}
 use Rattle.meaning.specs.Holds.{treeHolds, assertionsHold}
 
@@ -57,20 +52,3 @@ UncapturedMeaning = (names : NameTable) (t : Task) → Uncaptured (t .constraint
 -- And so it is in every accepted task, whatever the table of names. (proofs/Meaning.antt: flattening)
 abbrev pub Flattening : Type 1
 Flattening = (names : NameTable) (file : List ℕ) (t : Task) (end : ℕ) → taskOf file ≡ got t end → SameMeaning names t
-
--- OF THE SCRIPT
-
--- of a buffer at whose start the script of the task t stands
-pub record KeepsMeaning (names : NameTable) (t : Task) (buf : List ℕ) : Type 1 where
-  -- "An assertion is taken as demand three matches it": the script in the buffer is read as the commands that the task calls for, and in no other way,
-  pub reading : OnlyReading (take (length (scriptOf names t)) buf) (commandsOf names t)
-  -- the assertions among these are, one to one and in order, those of the clauses,
-  pub clauses : assertionsAmong (commandsOf names t) ≡ assertionsOf names (declared (t .datatypes)) (clausesOf t)
-  -- and the tree means the same as the clauses.
-  pub meaning : SameMeaning names t
-
--- So does what `script` leaves for an accepted file in every buffer with room. (proofs/Meaning.antt: script-meaning)
-abbrev pub ScriptMeaning : Type 1
-ScriptMeaning =
-    (names : NameTable) → Valid names → (file buf : List ℕ) (t : Task) (end : ℕ) → taskOf file ≡ got t end
-    → length (scriptOf names t) ≤ length buf → KeepsMeaning names t (scriptBuffer names file buf)
