@@ -26,6 +26,7 @@ each-map f (x ∷ xs) h = (f x (h .0), each-map f xs (h .1))
 
 -- REPEATS
 
+-- no refusal 7 for a name: it is not one of those around
 not-shadowed : (b : Bool) → unless (not b) Shadowed ≡ Sound → b ≡ false
 not-shadowed true e = clash (cc)
 not-shadowed false e = refl
@@ -64,6 +65,7 @@ module _ (t : Task) where
   abbrev AllBound : List (List ℕ) → List (List ℕ) → Type 0
   AllBound known around = (x : List ℕ) → isOne x known ≡ true → Bound around x
 
+  -- those that are known anywhere in the constraint are declared
   in-constraint : AllBound (inConstraint t) []
   unfolding inConstraint everywhere takenNames
   in-constraint x h =
@@ -80,7 +82,7 @@ module _ (t : Task) where
       go false false true k e = refl
       go false false false k e = clash (cc)
 
-  -- with one more name both ways
+  -- a ForAll's name is one more of both
   one-more : (known around : List (List ℕ)) (y : List ℕ) → AllBound known around → AllBound (known ++ y ∷ []) (around ++ y ∷ [])
   one-more known around y f x h =
       rw (one-append x around (y ∷ [])) (
@@ -93,12 +95,15 @@ module _ (t : Task) where
       go false b false false f e = e
 
   module _ (known around : List (List ℕ)) (k : AllBound known around) where
+    -- a declared name
     taken : (x : List ℕ) → isOne x (takenNames t) ≡ true → Bound around x
     taken x h = first _ (isOne x around) h
 
+    -- a constructor's name
     tested : (x : List ℕ) → isOne x (declaredBy true (t .datatypes)) ≡ true → Bound around x
     tested x h = taken x (one-taken x t ∙ rw h)
 
+    -- a name that is free or tested for where free names are known and constructors are tested for
     closed : {p q : List ℕ → Bool} → Closed p q (declaredBy true (t .datatypes)) known → (x : List ℕ) → (p x || q x) ≡ true → Bound around x
     closed {p} {q} c x h = ⊎-elim (λ g. k x (c .free x (is-true _ g))) (λ g. tested x (c .tested x (is-true _ g))) (either (p x) (q x) (true-holds h))
 
@@ -118,13 +123,14 @@ module _ (t : Task) where
         (either (same x n) (freeAmong x es || testedAmong x es) (true-holds h))
     free-known (Pred.expr e) c x h = closed c x h
 
-  -- neither declared nor around, so not free
+  -- a name that is neither declared nor around is not bound so
   not-free : (n r : Bool) → n ≡ false → r ≡ false → (n || r) ≡ true → ⊥
   not-free n r e f h = clash (cc)
 
   mutual
     unfolding constraintFault forAllNames EachPred Uncaptured
 
+    -- a name free in a predicate is declared or around it, and a ForAll inside has no such name
     uncaptured : (known around : List (List ℕ)) (c : Constraint) → AllBound known around
         → ((x : List ℕ) → isOne x (forAllNames c) ≡ true → isOne x (takenNames t) ≡ false)
         → constraintFault around c ≡ Sound → EachPred (PredClosed t) known c → Uncaptured c
@@ -142,6 +148,7 @@ module _ (t : Task) where
           uncaptured (known ++ y ∷ []) (around ++ y ∷ []) c more free inner (e .1),
         )
 
+    -- so for constraints in a row
     all-uncaptured : (known around : List (List ℕ)) (cs : Constraints) → AllBound known around
         → ((x : List ℕ) → isOne x (forAllsIn cs) ≡ true → isOne x (takenNames t) ≡ false)
         → constraintsFault around cs ≡ Sound → EachPreds (PredClosed t) known cs → AllUncaptured cs

@@ -31,6 +31,7 @@ use Rattle.meaning.proofs.Captures.{each-map, no-captures}
 
 -- TESTS OF EACH MEMBER OF A LIST
 
+-- two tests exchanged behind a third
 and-swap : (a b c d : Bool) → ((a && b) && (c && d)) ≡ ((a && c) && (b && d))
 and-swap true b true d = refl
 and-swap true true false d = refl
@@ -50,7 +51,7 @@ module _ {A : Type 0} where
   every-append f [] ys = refl
   every-append f (x ∷ xs) ys = rw (every-append f xs ys) (sym (and-assoc (f x) (every f xs) (every f ys)))
 
--- what is the same for all members can be asked once
+-- a condition that is the same for all members may be asked once, before them
 every-implied : {A : Type 0} (g : Bool) (p q : A → Bool) (xs : List A) → every (λ x. implies (g && p x) (q x)) xs ≡ implies g (every (λ x. implies (p x) (q x)) xs)
 every-implied true p q xs = refl
 every-implied false p q xs = every-true xs
@@ -89,6 +90,7 @@ module _ (P : Pred → Type 0) where
 module _ {Value : Type 0} (i : Interpretation Value) (l : Lawful i) (enc : Encoder) where
   -- LITERALLY TRUE PREDICATES
 
+  -- the only one is Boolean true
   literal : (p : Pred) (a : Assignment Value) → literallyTrue p ≡ true → i .truth p a ≡ true
   unfolding literallyTrue
   literal (Pred.kvar k es) a h = clash (cc)
@@ -134,13 +136,16 @@ module _ {Value : Type 0} (i : Interpretation Value) (l : Lawful i) (enc : Encod
 
   -- ALL VALUES OF BINDERS
 
+  -- what is the same under every assignment
   values-same : (vars : List Binder) {f g : Assignment Value → Bool} (a : Assignment Value) → ((b : Assignment Value) → f b ≡ g b) → forAllValues i enc vars f a ≡ forAllValues i enc vars g a
   values-same vars a e = ap (λ (f : Assignment Value → Bool). forAllValues i enc vars f a) (fun-ext e)
 
+  -- what holds always holds for all values, also for none
   values-true : (vars : List Binder) (a : Assignment Value) → forAllValues i enc vars (λ b. true) a ≡ true
   values-true [] a = refl
   values-true (x ∷ vars) a = ap (λ (f : Value → Bool). every f (i .values (write-sort enc (x .sort)))) (fun-ext (λ v. values-true vars (assign a (x .name) v))) ∙ every-true (i .values (write-sort enc (x .sort)))
 
+  -- two things hold for all values exactly if each does
   values-and : (vars : List Binder) (f g : Assignment Value → Bool) (a : Assignment Value)
       → forAllValues i enc vars (λ b. f b && g b) a ≡ (forAllValues i enc vars f a && forAllValues i enc vars g a)
   values-and [] f g a = refl
@@ -154,7 +159,7 @@ module _ {Value : Type 0} (i : Interpretation Value) (l : Lawful i) (enc : Encod
   values-snoc [] x f a = refl
   values-snoc (y ∷ vars) x f a = ap (λ (h : Value → Bool). every h (i .values (write-sort enc (y .sort)))) (fun-ext (λ v. values-snoc vars x f (assign a (y .name) v)))
 
-  -- guards that do not speak of a binder may be asked for before it is set, or with its own predicates behind it
+  -- guards in which a binder is not free may be asked before it is set, or behind that together with its own predicates
   set-behind : (x : List ℕ) (gs ps : List Pred) (h : Assignment Value → Bool) (vs : List Value) (a : Assignment Value)
       → Each (λ p. (y : List ℕ) → isFree y p ≡ true → same y x ≡ false) gs
       → implies (allTrue i gs a) (every (λ v. implies (allTrue i ps (assign a x v)) (h (assign a x v))) vs)
@@ -166,17 +171,19 @@ module _ {Value : Type 0} (i : Interpretation Value) (l : Lawful i) (enc : Encod
 
   -- THE WALK
 
+  -- an assertion's implication is that the guards imply the head, of either kind
   head-holds : (gs : List Pred) (p : Pred) (a : Assignment Value) → implication i gs p a ≡ implies (allTrue i gs a) (i .truth p a)
   head-holds gs (Pred.kvar k es) a = refl
   head-holds gs (Pred.expr e) a = implies-negation (allTrue i gs a) (i .truth (Pred.expr e) a)
 
-  -- under the binders and guards of a path a constraint holds exactly if its assertions do
+  -- a constraint holds under the binders and guards of a path
   abbrev Under : Constraint → List Binder → List Pred → Assignment Value → Bool
   Under c vars gs = forAllValues i enc vars (λ b. implies (allTrue i gs b) (treeHolds i enc c b))
 
   mutual
     unfolding flatten-constraint treeHolds forAllNames Uncaptured assertionHolds assertionsHold
 
+    -- it does exactly if the assertions do that the walk gives for it there
     flat : (c : Constraint) (vars : List Binder) (gs : List Pred) (a : Assignment Value) → Each (Unbound c) gs → Uncaptured c
         → Under c vars gs a ≡ assertionsHold i enc (flatten-constraint c vars gs) a
     flat (Constraint.pred p) vars gs a u k = go (literallyTrue p) refl
@@ -193,6 +200,7 @@ module _ {Value : Type 0} (i : Interpretation Value) (l : Lawful i) (enc : Encod
         ∙ sym (values-snoc vars binder _ a)
         ∙ flat c (vars ++ binder ∷ []) (gs ++ kept ps) a inner (k .1)
 
+    -- so for constraints in a row
     flats : (cs : Constraints) (vars : List Binder) (gs : List Pred) (a : Assignment Value) → Each (Unbound (Constraint.conj cs)) gs → AllUncaptured cs
         → forAllValues i enc vars (λ b. implies (allTrue i gs b) (treesHold i enc cs b)) a ≡ assertionsHold i enc (flatten-constraints cs vars gs) a
     flats Constraints.none vars gs a u k = values-same vars a (λ b. implies-true (allTrue i gs b)) ∙ values-true vars a
