@@ -1,12 +1,13 @@
 //! When a tree holds and when its assertions do (W-208), in interpretations by chance.
-use crate::task::{Constraint, Expr, Pred, Task};
+use crate::chance::summed;
+use crate::task::{Constraint, Expr, Pred, Sort, Task};
 use crate::text::{clauses, Edition, HornClause, SmtEncoder};
 use std::collections::{BTreeSet, HashMap};
 
 /// A number by chance for these words, the same for the same words.
 fn drawn<'w>(seed: u64, words: impl IntoIterator<Item = &'w [u8]>) -> u64 {
     let bytes = words.into_iter().flat_map(|word| word.len().to_le_bytes().into_iter().chain(word.iter().copied()));
-    let sum = bytes.fold(seed, |sum, byte| (sum ^ byte as u64).wrapping_mul(0x100_0000_01b3));
+    let sum = summed(seed, bytes);
     (sum ^ sum >> 29).wrapping_mul(0xbf58_476d_1ce4_e5b9) >> 32
 }
 
@@ -117,7 +118,7 @@ impl<'t, 'a> Meaning<'t, 'a> {
     }
 
     /// The values of a sort, by its text: there may be none.
-    fn values(&self, binder: &(&str, crate::task::Sort)) -> std::ops::Range<u64> {
+    fn values(&self, binder: &(&str, Sort)) -> std::ops::Range<u64> {
         let mut text = String::new();
         self.encoder.write_sort(&mut text, &binder.1);
         0..drawn(self.draw.seed, [b"sort", text.as_bytes()]) % self.draw.values

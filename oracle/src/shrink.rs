@@ -16,6 +16,9 @@ fn without(file: &[u8], span: Range<usize>) -> Vec<u8> {
     trailer(file).map_or(kept.clone(), |offsets| sealed(&kept, offsets.map(moved)))
 }
 
+/// The bytes of a file, as two digits each.
+pub fn hex(file: &[u8]) -> String { file.iter().map(|byte| format!("{byte:02x}")).collect() }
+
 /// Takes out pieces, the whole at first and single bytes at last, as long as what is left still shows it.
 pub fn smallest(file: &[u8], shows: impl Fn(&[u8]) -> bool) -> Vec<u8> {
     let (mut file, mut size) = (file.to_vec(), file.len());

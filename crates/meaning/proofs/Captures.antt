@@ -11,9 +11,10 @@ use Rattle.task.specs.Ast.{Pred, Constraint, Constraints, Task}
 use Rattle.task.specs.Fault.{unless, nameFault, shadowFault, constraintFault, constraintsFault, taskFault}
 use Rattle.task.specs.Laws.{SoundParts}
 use Rattle.task.specs.Scope.{declaredBy, datatypesTake, takenNames, everywhere, inConstraint}
-use Rattle.task.specs.Names.{forAllNames, forAllsIn, fieldNames, freeAmong, testedAmong, Closed, PredClosed, Each, EachPred, EachPreds}
+use Rattle.task.specs.Names.{forAllNames, forAllsIn, fieldNames, Disjoint, freeAmong, testedAmong, Closed, PredClosed, Each, EachPred, EachPreds}
 use Rattle.task.proofs.Judging.{sound-parts}
 use Rattle.task.proofs.Members.{none-first, first, second, one-append, one-taken}
+use Rattle.task.proofs.Naming.{apart-disjoint}
 use Rattle.task.proofs.Scoping.{task-sound, held-names}
 use Rattle.meaning.specs.Interpretation.{isFree}
 use Rattle.meaning.specs.Theorems.{Uncaptured, AllUncaptured, NoCaptures}
@@ -132,14 +133,14 @@ module _ (t : Task) where
 
     -- a name free in a predicate is declared or around it, and a ForAll inside has no such name
     uncaptured : (known around : List (List ℕ)) (c : Constraint) → AllBound known around
-        → ((x : List ℕ) → isOne x (forAllNames c) ≡ true → isOne x (takenNames t) ≡ false)
+        → Disjoint (forAllNames c) (takenNames t)
         → constraintFault around c ≡ Sound → EachPred (PredClosed t) known c → Uncaptured c
     uncaptured known around (Constraint.pred p) k d s e = tt
     uncaptured known around (Constraint.conj cs) k d s e = all-uncaptured known around cs k d s e
     uncaptured known around (Constraint.forAll y b ps c) k d s e =
         let more = one-more known around y k in
         let inner : constraintFault (around ++ y ∷ []) c ≡ Sound = none-right _ _ (none-right _ _ (none-right _ _ (none-right (nameFault y) _ s))) in
-        let free : (x : List ℕ) → isOne x (forAllNames c) ≡ true → isOne x (takenNames t) ≡ false = λ x h. d x (second (same x y) _ h) in (
+        let free : Disjoint (forAllNames c) (takenNames t) = λ x h. d x (second (same x y) _ h) in (
           each-map (λ p h x f.
               never (isOne x (forAllNames c)) (λ g.
               let z = is-true _ g in
@@ -150,7 +151,7 @@ module _ (t : Task) where
 
     -- so for constraints in a row
     all-uncaptured : (known around : List (List ℕ)) (cs : Constraints) → AllBound known around
-        → ((x : List ℕ) → isOne x (forAllsIn cs) ≡ true → isOne x (takenNames t) ≡ false)
+        → Disjoint (forAllsIn cs) (takenNames t)
         → constraintsFault around cs ≡ Sound → EachPreds (PredClosed t) known cs → AllUncaptured cs
     all-uncaptured known around Constraints.none k d s e = tt
     all-uncaptured known around (Constraints.more c cs) k d s e = (
@@ -166,7 +167,4 @@ constraint-sound t s = none-right _ _ (none-right _ _ (none-right _ _ (none-righ
 pub no-captures : NoCaptures
 no-captures file t end e =
     let n = held-names file t end e in
-    let a = n .apart in
-    uncaptured t (inConstraint t) [] (t .constraint) (in-constraint t)
-    (λ x h. one-taken x t ∙ rw (a .constructors x h, a .fields x h, a .constants x h, a .functions x h, a .kvars x h))
-    (constraint-sound t (task-sound file t end e)) (n .known .predicates)
+    uncaptured t (inConstraint t) [] (t .constraint) (in-constraint t) (apart-disjoint t (n .apart)) (constraint-sound t (task-sound file t end e)) (n .known .predicates)

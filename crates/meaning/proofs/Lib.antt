@@ -1,3 +1,3 @@
 pub mod Captures
+pub mod Examples
 pub mod Meaning
-pub mod Rows

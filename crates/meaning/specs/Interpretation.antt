@@ -33,7 +33,15 @@ pub record Interpretation (Value : Type 0) : Type 0 where
   -- of a predicate, where the names have the assigned values
   pub truth : Pred → Assignment Value → Bool
 
--- "a truth that depends only on the names free in it, with Boolean true true"
+-- "a truth that depends only on the names free in it"
+abbrev pub ByFreeNames : {Value : Type 0} → Interpretation Value → Type 0
+ByFreeNames {Value} i = (p : Pred) (a b : Assignment Value) → Agree p a b → i .truth p a ≡ i .truth p b
+
+-- "with Boolean true true"
+abbrev pub TrueIsTrue : {Value : Type 0} → Interpretation Value → Type 0
+TrueIsTrue {Value} i = (a : Assignment Value) → i .truth (Pred.expr (Expr.constant (Constant.boolean true))) a ≡ true
+
+-- both
 pub record Lawful {Value : Type 0} (i : Interpretation Value) : Type 0 where
-  pub free-names : (p : Pred) (a b : Assignment Value) → Agree p a b → i .truth p a ≡ i .truth p b
-  pub boolean-true : (a : Assignment Value) → i .truth (Pred.expr (Expr.constant (Constant.boolean true))) a ≡ true
+  pub free-names : ByFreeNames i
+  pub boolean-true : TrueIsTrue i

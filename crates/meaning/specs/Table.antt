@@ -1,4 +1,4 @@
--- W-208, computed: which names are free, when small trees and their assertions hold, and why refusals 7, 15 and 10 are there.
+-- W-208, computed: which names are free, when small trees and their assertions hold, and why refusals 7, 15 and 10 and the two laws are there.
 use Prim.Native.Nat.{ℕ}
 use Prim.Native.String.{String}
 use mathlib.Core.Path.{_≡_}
@@ -18,7 +18,7 @@ use Rattle.horn_text.specs.Clauses.{clausesOf}
 use Rattle.horn_text.specs.Script.{encoderOf}
 use Rattle.horn_text.specs.Answers.{refused, surveyAnswer}
 use Rattle.horn_text.specs.Table.{fileOf, named, var, exprPred, head}
-use Rattle.meaning.specs.Interpretation.{isFree, Assignment, assign, Interpretation, Lawful}
+use Rattle.meaning.specs.Interpretation.{isFree, Assignment, assign, Interpretation, ByFreeNames, TrueIsTrue, Lawful}
 use Rattle.meaning.specs.Holds.{treeHolds, assertionsHold}
 
 -- AN INTERPRETATION
@@ -40,9 +40,13 @@ byY = record { values = valuesOf; truth = λ p a. literallyTrue p || (isFree (by
 abbrev pub yTrue : Assignment Bool
 yTrue = assign (λ x. none) (bytes "y") true
 
--- whether the tree of a task holds then, and whether all its assertions do
+-- whether the tree of a task holds then, and whether all its assertions do: in an interpretation
+abbrev pub meaningsIn : Interpretation Bool → NameTable → Task → Bool × Bool
+meaningsIn i names t = (treeHolds i (encoderOf names t) (t .constraint) yTrue, assertionsHold i (encoderOf names t) (clausesOf t) yTrue)
+
+-- in this one
 abbrev pub meanings : NameTable → Task → Bool × Bool
-meanings names t = (treeHolds byY (encoderOf names t) (t .constraint) yTrue, assertionsHold byY (encoderOf names t) (clausesOf t) yTrue)
+meanings = meaningsIn byY
 
 -- TREES
 
@@ -123,7 +127,7 @@ withoutY =
 abbrev pub Means : Constraint → Bool → Type 0
 Means c b = (names : NameTable) → meanings names (taskWith [] c) ≡ (b, b)
 
--- in a task that declares nothing (proofs/Rows.antt: trees)
+-- in a task that declares nothing (proofs/Examples.antt: trees)
 pub record Trees : Type 0 where
   -- without heads: a Conj without members, a head that is literally true, and one under a ForAll
   pub no-members : Means (Constraint.conj Constraints.none) true
@@ -188,14 +192,32 @@ pub record Differs (number : ℕ) (file : List ℕ) (t : Task) : Type 0 where
   pub task : decoded file ≡ got t (trailerAt file)
   pub differ : (names : NameTable) → meanings names t ≡ (false, true)
 
--- THE TABLE (proofs/Rows.antt: table)
+-- WHY THE LAWS ARE THERE
+
+-- no predicate is true, not even Boolean true
+abbrev pub noneTrue : Interpretation Bool
+noneTrue = record { values = valuesOf; truth = λ p a. false }
+
+-- a predicate is true if it is literally true, or if y has the value true, be it free in the predicate or not
+abbrev pub notByFree : Interpretation Bool
+notByFree = record { values = valuesOf; truth = λ p a. literallyTrue p || valueTrue (a (bytes "y")) }
+
+-- Each has the one law and not the other, and a tree without captures whose assertions hold where it does not: Boolean true alone; ForAll x Bool with the guard x, over ForAll y Bool, over the head x. (proofs/Examples.antt: laws)
+pub record Laws : Type 0 where
+  pub by-free-names : ByFreeNames noneTrue
+  pub true-needed : (names : NameTable) → meaningsIn noneTrue names (taskWith [] (Constraint.pred (Pred.expr (boolean true)))) ≡ (false, true)
+  pub true-is-true : TrueIsTrue notByFree
+  pub free-needed : (names : NameTable) → meaningsIn notByFree names (taskWith [] (forAllOf "x" Sort.bool (is "x" ∷ []) (forAllOf "y" Sort.bool [] (headIs "x")))) ≡ (false, true)
+
+-- THE TABLE (proofs/Examples.antt: table)
 
 pub record Table : Type 0 where
   -- the names free in predicates
   pub free : T (every (isFree (bytes "y")) withY)
   pub not-free : T (every (λ p. not (isFree (bytes "y") p)) withoutY)
-  -- both laws hold of the interpretation
+  -- both laws hold of the interpretation, and both are needed
   pub lawful : Lawful byY
+  pub laws : Laws
   -- what small trees mean
   pub trees : Trees
   -- 7, and none of 15, 10 and 11; those that are judged before 7 would have been answered

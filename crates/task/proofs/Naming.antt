@@ -184,10 +184,12 @@ module _ (t : Task) where
         kvars = λ x h. none-second (gs x) (ks x) (none-second (ns x) (gs x || ks x) (none-second (cs x || fs x) (ns x || (gs x || ks x)) (no x h)));
       }
 
+  pub apart-disjoint : Apart t → Disjoint (forAllNames (t .constraint)) (takenNames t)
+  apart-disjoint a x h = one-taken x t ∙ rw (a .constructors x h, a .fields x h, a .constants x h, a .functions x h, a .kvars x h)
+
   apart-free : Apart t → (x : List ℕ) → isOne x (forAllNames (t .constraint)) ≡ true → 10 < rank (unless (not (globalsOf t .taken x)) Clash)
   unfolding globalsOf
-  apart-free a x h =
-      none-clash (isOne x (takenNames t)) (one-taken x t ∙ rw (a .constructors x h, a .fields x h, a .constants x h, a .functions x h, a .kvars x h))
+  apart-free a x h = none-clash (isOne x (takenNames t)) (apart-disjoint a x h)
 
   in-functions : (k : ℕ) → k < rank (namesFault t) → k < rank (functionsScope (declaredBy true (t .datatypes)) (everywhere t) (t .functions))
   unfolding namesFault

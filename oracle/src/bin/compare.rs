@@ -7,16 +7,16 @@
 //! part. For a refused file every call gives the refusal. No byte and no place of a table may change but those of what was asked for and has room. It
 //! prints a table of the files and one of the runs, and ends with exit status 1 at the first difference, with the smallest file that it finds for it.
 use jiggerreef::{part, run, script, survey, Edition, Refusal, Sizes};
-use oracle::chance::{Chance, SEED};
+use oracle::chance::{asked, summed, Chance};
 use oracle::check::{checked, sets};
 use oracle::faults::{any_kind, Case, KINDS};
 use oracle::limits::limits;
 use oracle::runs::{any_run, Tried};
-use oracle::shrink::smallest;
+use oracle::shrink::{hex, smallest};
 use oracle::strings::strings;
 use oracle::task::{decoded, Answer, NOTED, REFUSALS};
 use oracle::text::{Rendering, Run};
-use std::{collections::HashMap, env, process::ExitCode};
+use std::{collections::HashMap, process::ExitCode};
 
 const FILES: usize = 200_000;
 
@@ -116,7 +116,7 @@ impl Compared {
     /// Numbers by chance that are the same for the same file and edition, so that a difference shows again.
     fn chance(&self, file: &[u8], edition: Edition) -> Chance {
         let bytes = file.iter().copied().chain([edition as u8]);
-        Chance::new(bytes.fold(self.seed, |sum, byte| (sum ^ byte as u64).wrapping_mul(0x100_0000_01b3)))
+        Chance::new(summed(self.seed, bytes))
     }
 
     /// One run: its answer, every byte of the buffer and every place of the table.
@@ -229,16 +229,14 @@ impl Table {
 fn report(kind: &str, case: &Case, difference: &str, seed: u64) -> ExitCode {
     let differs = |file: &[u8]| Compared { seed, ..Compared::default() }.file(file, &checked(file)).err();
     let small = smallest(&case.file, |file| differs(file).is_some());
-    let hex: String = small.iter().map(|byte| format!("{byte:02x}")).collect();
     println!("{kind}: {difference}");
-    println!("smallest file, {} bytes: {hex}", small.len());
+    println!("smallest file, {} bytes: {}", small.len(), hex(&small));
     differs(&small).iter().for_each(|difference| println!("there, {difference}"));
     ExitCode::FAILURE
 }
 
 fn main() -> ExitCode {
-    let mut args = env::args().skip(1).map(|arg| arg.parse::<u64>().expect("a number"));
-    let (files, seed) = (args.next().map_or(FILES, |files| files as usize), args.next().unwrap_or(SEED));
+    let (files, seed) = asked(FILES);
     let (mut chance, mut table) = (Chance::new(seed), Table { compared: Compared { seed, ..Compared::default() }, ..Table::default() });
     KINDS.iter().for_each(|kind| table.rows.push((kind.0.to_string(), Counts::default())));
     let limits = limits();

@@ -6,14 +6,14 @@
 //! only 7, 15, 10 and 11 may be noted of it: no accepted file has a name free in a predicate of a ForAll that a ForAll inside that one binds, and where there is none tree
 //! and assertions are the same in every interpretation. It prints how often they differ in the others, and ends with exit status 1 at the first file that breaks
 //! this, with the smallest that it finds for it.
-use oracle::chance::{Chance, SEED};
+use oracle::chance::{asked, summed, Chance};
 use oracle::faults::any_kind;
 use oracle::limits::limits;
 use oracle::meaning::{captures, Draw, Meaning};
-use oracle::shrink::smallest;
+use oracle::shrink::{hex, smallest};
 use oracle::task::{decoded, noted, CLASH, MISCOUNTED, UNKNOWN};
 use oracle::words::packed;
-use std::{env, process::ExitCode};
+use std::process::ExitCode;
 
 const FILES: usize = 200_000;
 
@@ -46,7 +46,7 @@ struct Found { row: usize, accepted: bool, captured: bool, meanings: Vec<(bool, 
 fn found(file: &[u8], seed: u64) -> Option<Found> {
     let (task, noted) = (decoded(file).ok()?, noted(file).ok()?);
     let row = row(&noted)?;
-    let mut chance = Chance::new(file.iter().fold(seed, |sum, byte| (sum ^ *byte as u64).wrapping_mul(0x100_0000_01b3)));
+    let mut chance = Chance::new(summed(seed, file.iter().copied()));
     let mut meaning = Meaning::new(&task);
     let draws: Vec<Draw> = (0..DRAWN).map(|_| draw(&mut chance)).filter(|draw| meaning.work((draw.values - 1) as f64) <= MOST_WORK).collect();
     let passed_over = DRAWN - draws.len();
@@ -131,14 +131,13 @@ impl Table {
 
 fn report(kind: &str, file: &[u8], seed: u64) -> ExitCode {
     let small = smallest(file, |file| found(file, seed).is_some_and(|found| found.breaks()));
-    let hex: String = small.iter().map(|byte| format!("{byte:02x}")).collect();
-    println!("{kind}: accepted with a captured name, or tree and assertions differ without one\nsmallest file, {} bytes: {hex}", small.len());
+    println!("{kind}: accepted with a captured name, or tree and assertions differ without one");
+    println!("smallest file, {} bytes: {}", small.len(), hex(&small));
     ExitCode::FAILURE
 }
 
 fn main() -> ExitCode {
-    let mut args = env::args().skip(1).map(|arg| arg.parse::<u64>().expect("a number"));
-    let (files, seed) = (args.next().map_or(FILES, |files| files as usize), args.next().unwrap_or(SEED));
+    let (files, seed) = asked(FILES);
     let (mut chance, mut table, mut limits) = (Chance::new(seed), Table::default(), limits().into_iter());
     for turn in 0..files {
         let (kind, file) = match limits.next() {

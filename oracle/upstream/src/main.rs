@@ -11,15 +11,16 @@ mod types;
 
 include!(concat!(env!("OUT_DIR"), "/modules.rs"));
 
-use oracle::chance::{Chance, SEED};
+use oracle::chance::{asked, Chance};
 use oracle::faults::any_kind;
 use oracle::limits::limits;
 use oracle::returns::returns;
+use oracle::shrink::hex;
 use oracle::task::{accepted, decoded, REFUSALS};
 use oracle::strings::read;
 use oracle::text::{rendered, Edition};
 use std::panic::{catch_unwind, set_hook, AssertUnwindSafe};
-use std::{any::Any, collections::BTreeMap, env, process::ExitCode};
+use std::{any::Any, collections::BTreeMap, process::ExitCode};
 use types::*;
 
 const FILES: usize = 100_000;
@@ -68,8 +69,7 @@ fn compared(file: &[u8]) -> Compared {
 }
 
 fn main() -> ExitCode {
-    let mut args = env::args().skip(1).map(|arg| arg.parse::<u64>().expect("a number"));
-    let (files, seed) = (args.next().map_or(FILES, |files| files as usize), args.next().unwrap_or(SEED));
+    let (files, seed) = asked(FILES);
     let (mut chance, mut scripts, mut with_quotes, mut others, mut panics) = (Chance::new(seed), 0, 0, 0, BTreeMap::new());
     set_hook(Box::new(|_| ()));
     let by_chance = (0..files).map(|_| any_kind(&mut chance).2.case(&mut chance).file);
@@ -87,7 +87,7 @@ fn main() -> ExitCode {
             }
             Compared::Nothing => (),
             Compared::Difference => {
-                println!("a difference at {}", file.iter().map(|byte| format!("{byte:02x}")).collect::<String>());
+                println!("a difference at {}", hex(&file));
                 return ExitCode::FAILURE;
             }
         }

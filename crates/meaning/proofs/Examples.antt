@@ -1,4 +1,4 @@
--- The rows of W-208, computed from the definitions, and that their interpretation is lawful.
+-- The rows of the table of W-208, computed from the definitions, and that their interpretation is lawful.
 use mathlib.Core.Path.{_≡_, refl}
 use mathlib.Core.Bool.{Bool, true, false, _&&_, _||_}
 use Rattle.smtlib.specs.Lexicon.{bytes, reservedWords}
@@ -14,7 +14,7 @@ use Rattle.horn_text.specs.Clauses.{flatten-constraint}
 use Rattle.horn_text.specs.Answers.{surveyAnswer}
 use Rattle.meaning.specs.Interpretation.{isFree, Assignment, Lawful}
 use Rattle.meaning.specs.Holds.{treeHolds, assertionHolds, assertionsHold}
-use Rattle.meaning.specs.Table.{valueTrue, byY, repeatedTask, clashingTask, Trees, Table}
+use Rattle.meaning.specs.Table.{valueTrue, byY, repeatedTask, clashingTask, Laws, Trees, Table}
 
 by-y : Lawful byY
 unfolding literallyTrue
@@ -29,6 +29,15 @@ clashing-known : Known clashingTask
 unfolding everywhere inConstraint freeIn testedIn EachPred
 clashing-known =
     record { bodies = tt; predicates = ((record { free = λ x h. rw h; tested = λ x h. clash (cc) }, tt), (tt, record { free = λ x h. rw h; tested = λ x h. clash (cc) })) }
+
+pub laws : Laws
+unfolding freeIn testedIn literallyTrue write-sort flatten-constraint treeHolds assertionHolds assertionsHold
+laws = record {
+  by-free-names = λ p a b h. refl;
+  true-needed = λ names. refl;
+  true-is-true = λ a. refl;
+  free-needed = λ names. refl;
+}
 
 pub trees : Trees
 unfolding freeIn testedIn literallyTrue write-sort flatten-constraint treeHolds assertionHolds assertionsHold
@@ -64,6 +73,7 @@ table = record {
   free = tt;
   not-free = tt;
   lawful = by-y;
+  laws = laws;
   trees = trees;
   repeated = record { survey = λ names. refl; task = refl; differ = λ names. refl };
   repeated-alone = names-hold repeatedTask refl;
