@@ -1,6 +1,8 @@
 // The writer of one assertion, `write_assert` of `smt_horn.rs`. The lengths of what the ForAlls around the head have are kept, so an assertion
 // is measured from them and the head alone. It is written from the text that is kept of the ForAlls, or from their offsets where that text has
 // no room. The writers read any bytes: what they send is told for a path whose offsets are those of ForAlls, and for a head that decodes.
+#![tactic(auto)]
+
 ghost use Rattle.std.specs.Prelude.{true, ◌≡◌, [], ◌∷◌, ◌++◌, ◌+◌, ◌≤◌, ◌<◌, length};
 ghost use Rattle.task.specs.Decode.{many, dec_pred, deepest};
 ghost use Rattle.task.specs.Run.{Runs};
@@ -18,7 +20,7 @@ use task::Number;
 use task_check::Walked;
 
 // Guards in a row: where the next predicate stands, what was sent, and how many guards they are.
-#[derive(Drop)]
+#[derive(Clone, Copy)]
 struct Listed {
     at: usize,
     out: Out,
@@ -26,7 +28,7 @@ struct Listed {
 }
 
 // How an assertion is put together: for a KVar or for an expression, with binders or without, and the number of its guards.
-#[derive(Drop)]
+#[derive(Clone, Copy)]
 pub struct Form {
     pub kvar: bool,
     pub bound: bool,
@@ -34,7 +36,7 @@ pub struct Form {
 }
 
 // What is kept of the ForAlls around a place: how long the text of their binders is and that of their guards, and how many guards there are.
-#[derive(Drop)]
+#[derive(Clone, Copy)]
 pub struct Kept {
     pub vars: usize,
     pub guards: usize,

@@ -1,6 +1,8 @@
 // What the program `hornscript` writes for a task file: its script in the edition of Z3 on standard output, or one line `refused N` and nothing
 // else. No contract can speak of standard output: what is proved is which parts the buffer holds at each turn, and that the bytes handed out
 // add up to the script.
+#![tactic(auto)]
+
 ghost use Rattle.std.specs.Prelude.{◌≡◌, length};
 ghost use Rattle.inspect.specs.Inspect.{Names};
 ghost use Rattle.task.specs.Task.{task_of};
@@ -18,14 +20,14 @@ use smt_text::Edition;
 use trailer::Bounds;
 
 // What a turn put into the buffer: the number of the part behind it, and how many bytes.
-#[derive(Drop)]
+#[derive(Clone, Copy)]
 pub struct Turn {
     pub next: usize,
     pub len: usize,
 }
 
 // What was printed: a script of so many bytes, or the line of a refusal.
-#[derive(Drop)]
+#[derive(Clone, Copy)]
 pub enum Printed {
     Script(usize),
     Refused(u8),

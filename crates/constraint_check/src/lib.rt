@@ -1,4 +1,6 @@
 // The walk over a constraint: where it ends, what is at fault in it, and how many of its heads are not literally true.
+#![tactic(auto)]
+
 ghost use Rattle.std.specs.Prelude.{◌≡◌, [], ◌+◌, ◌<◌, length, cond};
 ghost use Rattle.task.specs.Ast.{Constraints};
 ghost use Rattle.task.specs.Decode.{many, dec_pred, dec_constraint, deepest};
@@ -16,7 +18,7 @@ use task::{ConstraintNode, Fault, Number, Span, SpanRead};
 use task_check::Walked;
 
 // Where a piece ends and its fault, or the number of the refusal, and the number of its heads that are not literally true.
-#[derive(Drop)]
+#[derive(Clone, Copy)]
 pub struct Counted {
     pub walked: Walked,
     pub heads: u64,

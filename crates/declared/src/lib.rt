@@ -1,5 +1,7 @@
 // The names that a task declares, as entries of a symbol table in the order of the file: datatypes with their constructors and fields, and
 // constants; then KVars. The walkers read any bytes: what they add is told for pieces that decode.
+#![tactic(auto)]
+
 ghost use Rattle.std.specs.Prelude.{[], ◌∷◌, ◌+◌, ◌≤◌, length};
 ghost use Rattle.task.specs.Decode.{many, name, binder, data_ctor, datatype, kvar};
 ghost use Rattle.trailer.specs.Bounds.{Inside, start_of, end_of};

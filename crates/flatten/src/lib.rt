@@ -2,6 +2,8 @@
 // the assertion into the buffer behind the last written byte, and its length into a table, if the assertion's number among the parts is in the
 // range. The walk carries how much text the binders and guards of the path have: a ForAll adds what it has for its body and takes it back behind
 // it. So where the buffer is empty an assertion is measured without going over the path.
+#![tactic(auto)]
+
 ghost use Rattle.std.specs.Prelude.{true, ◌&&◌, [], ◌≡◌, ◌+◌, ◌≤◌, ◌<◌, min, max, length, set};
 ghost use Rattle.task.specs.Ast.{Constraints};
 ghost use Rattle.task.specs.Decode.{many, dec_pred, dec_constraint};
@@ -22,14 +24,14 @@ use task::ConstraintNode;
 use task_check::Walked;
 
 // The numbers of the parts that are written: from one up to, not including, another.
-#[derive(Drop)]
+#[derive(Clone, Copy)]
 pub struct Range {
     pub from: usize,
     pub to: usize,
 }
 
 // Which parts are written, how many were met, how many bytes were written and how long the longest written part is.
-#[derive(Drop)]
+#[derive(Clone, Copy)]
 pub struct Progress {
     pub range: Range,
     pub seen: usize,
@@ -38,21 +40,21 @@ pub struct Progress {
 }
 
 // Where a walker is, and the progress so far.
-#[derive(Drop)]
+#[derive(Clone, Copy)]
 pub struct Moved {
     pub at: usize,
     pub progress: Progress,
 }
 
 // What a walk of a constraint carries: where it is and the progress so far, and what is kept of the ForAlls around it.
-#[derive(Drop)]
+#[derive(Clone, Copy)]
 pub struct Walk {
     pub moved: Moved,
     pub kept: Kept,
 }
 
 // Constraints in a row: how the walk meets the first, and how many they are.
-#[derive(Drop)]
+#[derive(Clone, Copy)]
 pub struct Row {
     pub from: Walk,
     pub left: u64,

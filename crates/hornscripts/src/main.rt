@@ -1,5 +1,7 @@
 // Reads task files from standard input, each behind its length in 4 bytes, and writes for each a line of what survey answers and then what
 // `hornscript` writes. It reads at most 4,096 files of at most 65,535 bytes.
+#![tactic(auto)]
+
 ghost use Rattle.std.specs.Prelude.{◌≤◌};
 
 use libc::STDOUT_FILENO;

@@ -1,4 +1,6 @@
 // The whole file: its trailer, its sections front to back, its names, and what survey refuses.
+#![tactic(auto)]
+
 ghost use Rattle.std.specs.Prelude.{◌≡◌, ◌+◌, ◌≤◌, length, take};
 ghost use Rattle.task.specs.Fault.{lower, refusal_of};
 ghost use Rattle.task.specs.Task.{task_of};
@@ -14,14 +16,14 @@ use task_check::Walked;
 use trailer::{Bounds, Trailer};
 
 // The number of a section's items and the fault that is judged first, or the number of the refusal.
-#[derive(Drop)]
+#[derive(Clone, Copy)]
 pub enum Listed {
     Items(u64, Fault),
     Refused(u8),
 }
 
 // The sections of a task, the number of its declarations and of its heads that are not literally true; or the number of the refusal.
-#[derive(Drop)]
+#[derive(Clone, Copy)]
 pub enum Inspected {
     Task(Bounds, u64, u64),
     Refused(u8),

@@ -1,5 +1,7 @@
 // Inspects the files of standard input, each behind its length in 4 bytes, and writes a line for each: its sections and numbers, or the
 // number of its refusal. It reads at most 4,096 files of at most 65,535 bytes.
+#![tactic(auto)]
+
 ghost use Rattle.std.specs.Prelude.{◌≤◌};
 
 use inspect::Inspected;

@@ -1,4 +1,6 @@
 // The items of a file's sections: comments, datatypes, constants, functions and KVars. Where each ends and what is at fault in it.
+#![tactic(auto)]
+
 ghost use Rattle.std.specs.Prelude.{◌≡◌, true, false, [], ◌∷◌, ◌<◌};
 ghost use Rattle.task.specs.Decode.{many, name, comment, data_ctor, datatype, body, function, kvar};
 ghost use Rattle.task.specs.Fault.{each, name_fault, text_fault, data_ctor_fault, empty_fault, datatype_fault, arity_fault, body_fault, function_fault, kvar_fault};
@@ -9,7 +11,7 @@ use task::{Fault, FlagRead, Number, SpanRead};
 use task_check::Walked;
 
 // What a section holds.
-#[derive(Drop)]
+#[derive(Clone, Copy)]
 pub enum Section {
     Comments,
     Datatypes,

@@ -1,5 +1,7 @@
 // The archive: `survey`, `part`, `run` and `script` for C and Rust. A call answers 0 and stores its values, or it answers the number of its refusal
 // and stores nothing. They ask nothing of the bytes, the edition's number, an index, a count or the length of a buffer or a table.
+#![tactic(auto)]
+
 ghost use Rattle.std.specs.Prelude.{◌≡◌, [], ◌∷◌, length};
 ghost use Rattle.smt_text.specs.Editions.{names_of, edition_of};
 ghost use Rattle.horn_text.specs.Answers.{survey_answer, part_answer, part_buffer, script_answer, script_buffer, run_answer, run_buffer, run_table};

@@ -1,13 +1,15 @@
 // A symbol table in a lent slice of words, over the bytes s of a file. Word 0 is left for options. Word 1 is the number of entries. Words 2
 // to 1025 are the heads of the buckets. Entry k has three words from 1026 + 3 * k on: one more than the number of the next older entry of
 // its bucket, or 0; where its name stands in s; the number of its kind.
+#![tactic(auto)]
+
 ghost use Rattle.std.specs.Prelude.{◌≡◌, ◌+◌, ◌*◌, ◌≤◌, ◌<◌, length, get_or};
 ghost use Rattle.smtlib.specs.Lexicon.{same};
 ghost use Rattle.names.specs.Table.{number_of, name_at, has_name, Named, hash_of, count_of, offset_of, symbol_of, entries, fits, last_of, room_for, Chained};
 ghost use Rattle.names.specs.Change.{Pushed, Popped};
 
 // What an entry's name is the name of. A search asks for a range of kinds in this order.
-#[derive(Drop)]
+#[derive(Clone, Copy)]
 pub enum Kind {
     Datatype,
     KVar,
@@ -20,7 +22,7 @@ pub enum Kind {
 }
 
 // The answer of a search: the number of an entry.
-#[derive(Drop)]
+#[derive(Clone, Copy)]
 pub enum Found {
     Entry(usize),
     Nothing,

@@ -1,4 +1,6 @@
 // The output: a counter by value that sends bytes, decimals and names to a buffer, and the names of the theory functions.
+#![tactic(auto)]
+
 ghost use Rattle.std.specs.Prelude.{◌≡◌, true, [], ◌∷◌, ◌++◌, ◌+◌, ◌-◌, ◌*◌, ◌/◌, ◌%◌, ◌^◌, ◌≤◌, ◌<◌, min, ltb, length, take, drop};
 ghost use Rattle.std.proofs.lemmas.List.Edits.{sets};
 ghost use Rattle.smtlib.specs.Lexicon.{any};
@@ -16,13 +18,13 @@ use smt_text::Edition;
 use task::{Span, ThyFunc};
 
 // How many bytes were sent.
-#[derive(Drop)]
+#[derive(Clone, Copy)]
 pub struct Out {
     pub len: usize,
 }
 
 // A number divided by 10^9, and the rest.
-#[derive(Drop)]
+#[derive(Clone, Copy)]
 struct Divided {
     lo: u64,
     hi: u64,
@@ -30,14 +32,14 @@ struct Divided {
 }
 
 // The digits of a number stand from a place on.
-#[derive(Drop)]
+#[derive(Clone, Copy)]
 struct Digits {
     bytes: [u8; 45],
     start: usize,
 }
 
 // Which of the names a theory function's is, with the names of Z3, and its index if it has one.
-#[derive(Drop)]
+#[derive(Clone, Copy)]
 pub enum Entry {
     Plain(usize),
     Indexed(usize, u64),

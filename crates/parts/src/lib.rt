@@ -1,5 +1,7 @@
 // The parts of a script and the walk over those in a range, `write_smt_horn` of `smt_horn.rs`: the opening, the declarations, the blank line,
 // the assertions, the closing. Each is written into the buffer behind the last written byte, its length goes into a table, and it is counted.
+#![tactic(auto)]
+
 ghost use Rattle.std.specs.Prelude.{◌≡◌, ◌≤◌, length, take};
 ghost use Rattle.task.specs.Decode.{comment, section as section_of};
 ghost use Rattle.trailer.specs.Bounds.{Inside};

@@ -1,9 +1,11 @@
 // The path: the ForAlls around a place of the constraint, by value.
+#![tactic(auto)]
+
 ghost use Rattle.std.specs.Prelude.{◌≡◌, [], ◌∷◌, ◌++◌, ◌+◌, ◌<◌, length};
 ghost use Rattle.path.specs.Offsets.{entries};
 
 // The offset of each ForAll's name, the outermost first. A file has at most 60,000 bytes: two bytes hold an offset.
-#[derive(Drop)]
+#[derive(Clone, Copy)]
 pub struct Path {
     pub offsets: [u16; 256],
     pub depth: usize,

@@ -5,6 +5,8 @@
 // given if `part`, `script` and `run` agree with it: the script is the parts joined, a buffer one byte short is refused with 9, part P with 8,
 // bytes behind a text and all bytes at a refusal are unchanged; all parts in one run and in two have these bytes and, by the table of lengths,
 // these ends.
+#![tactic(auto)]
+
 ghost use Rattle.std.specs.Prelude.{◌<◌};
 ghost use Rattle.io.specs.Counts.{IsPrefixLen};
 
@@ -23,7 +25,7 @@ const MARKED: u32 = 2863311530;
 const MODULUS: u64 = 36028797018963913;
 
 // Of the parts so far: the checksums of their bytes and of their ends, their length, and whether every call answered as it has to.
-#[derive(Drop)]
+#[derive(Clone, Copy)]
 struct Joined {
     bytes: u64,
     ends: u64,

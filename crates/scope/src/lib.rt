@@ -1,5 +1,7 @@
 // The walk over the bodies of functions and over the constraint that judges names by a table: a name is pushed where its scope begins and
 // popped where it ends.
+#![tactic(auto)]
+
 ghost use Rattle.std.specs.Prelude.{◌≡◌, not, [], ◌∷◌, ◌+◌, ◌*◌, ◌≤◌, ◌<◌, length};
 ghost use Rattle.task.specs.Ast.{Exprs, Constraints};
 ghost use Rattle.task.specs.Decode.{many, dec_expr, dec_pred, dec_constraint};
@@ -24,7 +26,7 @@ use trailer::Bounds;
 
 // What an expression's node leaves to be walked, with the fault of the node itself: expressions in a row, or the parts of an application, a
 // Let or a quantifier.
-#[derive(Drop)]
+#[derive(Clone, Copy)]
 pub enum ScopeParts {
     Row(u64, usize, Fault),
     App(bool, usize),

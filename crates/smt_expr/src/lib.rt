@@ -1,4 +1,6 @@
 // Writers of expressions. As those of sorts they read any bytes, and ask only that the encoder can be searched.
+#![tactic(auto)]
+
 ghost use Rattle.std.specs.Prelude.{◌≡◌};
 ghost use Rattle.task.specs.Ast.{Exprs};
 ghost use Rattle.task.specs.Decode.{many, given, dec_expr};

@@ -1,5 +1,7 @@
 // The port of `smt_fmt.rs` with `SmtOptions::HORN`: predicates and declarations, on the writers of sorts and expressions. As those they read
 // any bytes, and ask only that the encoder can be searched. With them `write_kvar_decl` of `smt_horn.rs`.
+#![tactic(auto)]
+
 ghost use Rattle.std.specs.Prelude.{◌≡◌, true, [], ◌∷◌};
 ghost use Rattle.task.specs.Ast.{Sorts, Exprs};
 ghost use Rattle.task.specs.Decode.{many, name, dec_sort, dec_expr, dec_pred, body, data_ctor, datatype, constant, function, kvar, deepest};
@@ -16,7 +18,7 @@ use task::{FlagRead, Number, PredNode, Span, SpanRead};
 use task_check::Walked;
 
 // Where the writer of an argument ended: behind its name, behind its sort, and the output then.
-#[derive(Drop)]
+#[derive(Clone, Copy)]
 pub struct Argument {
     pub at: usize,
     pub from: usize,

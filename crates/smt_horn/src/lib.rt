@@ -1,6 +1,8 @@
 // `survey`, `part`, `run` and `script`: what `smt_horn.rs` writes for a task file, or the number of a refusal. They answer for any bytes, and write
 // nothing before all that could refuse has been checked. The caller picks the edition with each call: with `Z3` the text is that of the source,
 // with `Cvc5` the set functions have the names of cvc5 in it.
+#![tactic(auto)]
+
 ghost use Rattle.std.specs.Prelude.{◌≡◌, length};
 ghost use Rattle.inspect.specs.Inspect.{Room, Names};
 ghost use Rattle.smt_text.specs.Editions.{names_of};
@@ -18,21 +20,21 @@ use trailer::Bounds;
 
 // What `survey` answers: the numbers of parts and of assertions, the length of the script and that of its longest part; or the number of the
 // refusal.
-#[derive(Drop)]
+#[derive(Clone, Copy)]
 pub enum Surveyed {
     Sizes(usize, usize, usize, usize),
     Refused(u8),
 }
 
 // What `part`, `run` and `script` answer: the written length, or the number of the refusal.
-#[derive(Drop)]
+#[derive(Clone, Copy)]
 pub enum Written {
     Length(usize),
     Refused(u8),
 }
 
 // What a call asks for: all parts; or those of a run, from a first one on and so many, with the length of each.
-#[derive(Drop)]
+#[derive(Clone, Copy)]
 enum Asked {
     All,
     Run(usize, usize),
@@ -40,7 +42,7 @@ enum Asked {
 
 // What a call finds: the number of the task's heads that are not literally true, and what was counted and measured of the parts that are asked
 // for; or the number of the refusal.
-#[derive(Drop)]
+#[derive(Clone, Copy)]
 enum Outcome {
     Parts(u64, Progress),
     Refused(u8),

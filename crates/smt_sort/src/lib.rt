@@ -1,5 +1,7 @@
 // Writers of sorts. A writer reads any bytes at any position and sends what it writes to the output: where a piece is decoded, it sends the
 // piece's text and ends behind the piece. It asks that the encoder, a symbol table of the declared names, can be searched.
+#![tactic(auto)]
+
 ghost use Rattle.std.specs.Prelude.{◌≡◌, [], ◌∷◌, ◌<◌, length, set};
 ghost use Rattle.smtlib.specs.Lexicon.{is_one};
 ghost use Rattle.task.specs.Ast.{Sorts};
@@ -18,7 +20,7 @@ use task::{SortNode, Span, SpanRead};
 use task_check::Walked;
 
 // What an applied sort is made by.
-#[derive(Drop)]
+#[derive(Clone, Copy)]
 pub enum SortCtor {
     Set,
     Map,

@@ -1,4 +1,6 @@
 // Writers of what is one word or a few: they send it and end at the position that they are given.
+#![tactic(auto)]
+
 ghost use Rattle.std.specs.Prelude.{◌≡◌, ◌∷◌, ◌+◌, ◌*◌, ◌^◌};
 ghost use Rattle.smtlib.specs.Compose.{decimal};
 ghost use Rattle.task.specs.Ast.{Constant};
@@ -10,7 +12,7 @@ use output::Out;
 use task::{Quantifier, Span};
 
 // Where a writer ended, and the output then.
-#[derive(Drop)]
+#[derive(Clone, Copy)]
 pub struct Sent {
     pub at: usize,
     pub out: Out,

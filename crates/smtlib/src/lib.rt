@@ -1,5 +1,7 @@
 // The words of SMT-LIB 2.6: whether bytes are a simple symbol. What a reading of a script is, and the theorems about readings, stand in
 // specs/ and proofs/.
+#![tactic(auto)]
+
 ghost use Rattle.std.specs.Prelude.{◌≡◌, ◌<◌};
 ghost use Rattle.smtlib.specs.Lexicon.{all, same, digit, symbol_byte, is_simple, is_reserved, is_symbol};
 ghost use Rattle.smtlib.specs.Table.{symbol_places, in_row};

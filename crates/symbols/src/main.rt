@@ -1,6 +1,8 @@
 // Tries smtlib::is_symbol on the words of standard input, a line each: a word, the word with one byte more, with one byte less and in
 // the other case. Then on the empty word, on words of 255 bytes and on each single byte. Writes what it found. It reads at most 4,096
 // bytes, and passes over words of more than 63.
+#![tactic(auto)]
+
 ghost use Rattle.std.specs.Prelude.{◌≡◌, ◌<◌, length};
 
 use libc::STDOUT_FILENO;

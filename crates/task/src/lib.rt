@@ -1,10 +1,12 @@
 // The tree of a task as the file has it: reading numbers, names and nodes at a position.
+#![tactic(auto)]
+
 ghost use Rattle.std.specs.Prelude.{◌≡◌, ◌<◌, ◌≤◌};
 ghost use Rattle.task.specs.Decode.{raw, number, name, text, flag, coded, bin_ops, bin_rels, thy_funcs, extends, quantifiers};
 ghost use Rattle.task.specs.Node.{number_of, halves_of, bytes_of, span_of, flag_of, bin_op_of, bin_rel_of, thy_func_of, quantifier_of, sort_code, sort_width, named_code, connective_code, flagged_code, SortForm, SortAt, ExprForm, ExprAt, PredForm, PredAt, ConstraintForm, ConstraintAt};
 
 // The theory functions, in the source's order of declaration; a function's place is its code.
-#[derive(Drop)]
+#[derive(Clone, Copy)]
 pub enum ThyFunc {
     StrLen,
     StrConcat,
@@ -56,7 +58,7 @@ pub enum ThyFunc {
     MapStore,
 }
 
-#[derive(Drop)]
+#[derive(Clone, Copy)]
 pub enum BinOp {
     Add,
     Sub,
@@ -65,7 +67,7 @@ pub enum BinOp {
     Mod,
 }
 
-#[derive(Drop)]
+#[derive(Clone, Copy)]
 pub enum BinRel {
     Eq,
     Ne,
@@ -75,14 +77,14 @@ pub enum BinRel {
     Le,
 }
 
-#[derive(Drop)]
+#[derive(Clone, Copy)]
 pub enum Quantifier {
     Exists,
     Forall,
 }
 
 // What is refused of a task that decodes, in the order in which it is judged; `Sound` is no fault.
-#[derive(Drop)]
+#[derive(Clone, Copy)]
 pub enum Fault {
     Text,
     NoConstructors,
@@ -98,35 +100,35 @@ pub enum Fault {
 }
 
 // A part of the section.
-#[derive(Drop)]
+#[derive(Clone, Copy)]
 pub struct Span {
     pub at: usize,
     pub len: usize,
 }
 
 // A number and the position behind it.
-#[derive(Drop)]
+#[derive(Clone, Copy)]
 pub enum Number {
     Value(u64, usize),
     Refused,
 }
 
 // A number of 16 bytes in two halves, the low one first, and the position behind it.
-#[derive(Drop)]
+#[derive(Clone, Copy)]
 pub enum Halves {
     Value(u64, u64, usize),
     Refused,
 }
 
 // A name's or a text's bytes and the position behind them.
-#[derive(Drop)]
+#[derive(Clone, Copy)]
 pub enum SpanRead {
     At(Span, usize),
     Refused,
 }
 
 // The node of a sort, with the position behind what was read of it.
-#[derive(Drop)]
+#[derive(Clone, Copy)]
 pub enum SortNode {
     Int(usize),
     Bool(usize),
@@ -144,7 +146,7 @@ pub enum SortNode {
 }
 
 // The sorts that have a number behind their code: a width, a variable's number, a number of variables, or a count.
-#[derive(Drop)]
+#[derive(Clone, Copy)]
 pub enum NumberedSort {
     BvSize,
     Var,
@@ -154,45 +156,45 @@ pub enum NumberedSort {
 }
 
 // The expressions that have a name behind their code.
-#[derive(Drop)]
+#[derive(Clone, Copy)]
 pub enum NamedExpr {
     Var,
     Let,
     IsCtor,
 }
 
-#[derive(Drop)]
+#[derive(Clone, Copy)]
 pub enum FlagRead {
     Flag(bool, usize),
     Refused,
 }
 
-#[derive(Drop)]
+#[derive(Clone, Copy)]
 pub enum BinOpRead {
     Op(BinOp, usize),
     Refused,
 }
 
-#[derive(Drop)]
+#[derive(Clone, Copy)]
 pub enum BinRelRead {
     Rel(BinRel, usize),
     Refused,
 }
 
-#[derive(Drop)]
+#[derive(Clone, Copy)]
 pub enum ThyRead {
     Func(ThyFunc, usize),
     Refused,
 }
 
-#[derive(Drop)]
+#[derive(Clone, Copy)]
 pub enum QuantifierRead {
     Is(Quantifier, usize),
     Refused,
 }
 
 // The node of an expression, with the position behind what was read of it. A number of 16 bytes is two halves, the low one first.
-#[derive(Drop)]
+#[derive(Clone, Copy)]
 pub enum ExprNode {
     Numeral(u64, u64, usize),
     Boolean(bool, usize),
@@ -218,14 +220,14 @@ pub enum ExprNode {
     Refused,
 }
 
-#[derive(Drop)]
+#[derive(Clone, Copy)]
 pub enum PredNode {
     KVar(Span, u64, usize),
     Expr(usize),
     Refused,
 }
 
-#[derive(Drop)]
+#[derive(Clone, Copy)]
 pub enum ConstraintNode {
     Pred(usize),
     Conj(u64, usize),

@@ -1,4 +1,6 @@
 // Walks over the pieces of a task: where each ends, and what is at fault in it. A walker reads any bytes at any position.
+#![tactic(auto)]
+
 ghost use Rattle.std.specs.Prelude.{◌≡◌, ◌+◌, ◌<◌, true, false, [], ◌∷◌};
 ghost use Rattle.smtlib.specs.Lexicon.{all, is_one, visible};
 ghost use Rattle.task.specs.Ast.{Sorts, Exprs};
@@ -10,14 +12,14 @@ ghost use Rattle.task_check.specs.Walk.{walked, after as after_of, sort_parts, e
 use task::{ExprNode, Fault, Number, PredNode, SortNode, Span, SpanRead, ThyFunc};
 
 // The fault of a piece and where it ends, or the number of the refusal. With the fault first the answer has 16 bytes.
-#[derive(Drop)]
+#[derive(Clone, Copy)]
 pub enum Walked {
     Next(Fault, usize),
     Refused(u8),
 }
 
 // What a sort's node leaves to be walked, with the fault of the node itself: sorts in a row, or the one sort of a BitVec.
-#[derive(Drop)]
+#[derive(Clone, Copy)]
 pub enum SortParts {
     Row(u64, usize, Fault),
     Width(usize, Fault),
@@ -26,7 +28,7 @@ pub enum SortParts {
 
 // What an expression's node leaves to be walked, with the fault of the node itself: expressions in a row, or the parts of an
 // application or of a quantifier.
-#[derive(Drop)]
+#[derive(Clone, Copy)]
 pub enum ExprParts {
     Row(u64, usize, Fault),
     App(bool, usize),

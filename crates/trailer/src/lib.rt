@@ -1,4 +1,6 @@
 // The trailer of a file: its length, its mark, and where its sections are.
+#![tactic(auto)]
+
 ghost use Rattle.std.specs.Prelude.{◌≡◌, ◌-◌, ◌<◌, ◌≤◌, length, drop};
 ghost use Rattle.smtlib.specs.Lexicon.{same};
 ghost use Rattle.task.specs.Task.{mark, bound};
@@ -8,7 +10,7 @@ use item_check::Section;
 use task::Number;
 
 // Where each section begins, and where the last one ends.
-#[derive(Drop)]
+#[derive(Clone, Copy)]
 pub struct Bounds {
     pub comments: usize,
     pub datatypes: usize,
@@ -19,7 +21,7 @@ pub struct Bounds {
     pub end: usize,
 }
 
-#[derive(Drop)]
+#[derive(Clone, Copy)]
 pub enum Trailer {
     Read(Bounds),
     Refused,

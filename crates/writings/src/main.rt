@@ -1,6 +1,8 @@
 // Writes the pieces of standard input, each behind a byte for its kind, to which 128 is added for the edition of cvc5, the end of its datatype
 // section in 2 bytes and its length in 2: for each the number of bytes that it is measured to have, a space, its text and a line feed. It reads at
 // most 4,096 pieces.
+#![tactic(auto)]
+
 ghost use Rattle.std.specs.Prelude.{◌≤◌, length};
 ghost use Rattle.names.specs.Table.{Chained};
 
