@@ -33,7 +33,7 @@ use Rattle.horn_text.specs.Script.{join, write_preds, write_guard_conjunction, w
 use Rattle.horn_text.specs.Commands.{preds_sexp, guards_sexp, negation_sexp, implication_sexp, forall_sexp, assertion_command, assertions_of, declaration_commands, templates_of, commands_of, is_assertion, assertions_among}
 use Rattle.horn_text.specs.Theorems.{ScriptRead, ScriptFilled, FirstAssertions, AllAssertions, AssertionsNumber}
 use Rattle.horn_text.proofs.Places.{clauses_number}
-open composition use {Writes-nothing, Writes-more, Writes-blank, writes_comment, Written-Read}
+open composition use {writes_nothing, writes_more, writes_blank, writes_comment, written_read}
 open sound_parts use {none_left, none_right, none_both}
 
 -- ASSERTIONS
@@ -162,7 +162,7 @@ sets_more (x ∷ xs) ys = rw (append_assoc, sets_more xs ys)
 -- a text and a text behind it
 more : {u v : NameTable → List ℕ} {xs ys : List Template} → Written u xs → Written v ys → Written (λ n. u n ++ v n) (xs ++ ys)
 more {xs = xs} {ys = ys} h k = record {
-  writes = λ n v. rw (map-append (fill n) xs ys) (Writes-more (h.writes n v) (k.writes n v));
+  writes = λ n v. rw (map-append (fill n) xs ys) (writes_more (h.writes n v) (k.writes n v));
   pieces = listed (h.pieces ⊕ k.pieces) (sets_more xs ys);
 }
 
@@ -177,7 +177,7 @@ record Parts (ws : NameTable → List (List ℕ)) (xs : List Template) : Type 0 
 
 -- a part alone
 one_part : {w : NameTable → List ℕ} {xs : List Template} → Written w xs → Parts (λ n. w n ∷ []) (xs ++ [])
-one_part h = record { written = more h (plain Writes-nothing) }
+one_part h = record { written = more h (plain writes_nothing) }
 
 -- parts and more parts
 infixr 5 ◌then◌
@@ -192,33 +192,33 @@ infixr 5 ◌then◌
 -- a section without fault: a command for each of its items
 section : {A : Type 0} {fault : A → Fault} {text : NameTable → A → List ℕ} {says : A → Template}
     → ((a : A) → fault a ≡ Sound → Written (λ n. text n a) (says a ∷ [])) → (xs : List A) → each fault xs ≡ Sound → Parts (λ n. map (text n) xs) (map says xs)
-section f [] h = record { written = plain Writes-nothing }
+section f [] h = record { written = plain writes_nothing }
 section f (x ∷ xs) h = record { written = more (f x (none_left _ _ h)) (section f xs (none_right _ _ h)).written }
 
 -- comments are no commands
 comments_write : (cs : List (List ℕ)) → each text_fault cs ≡ Sound → Writes (join (map write_comment cs)) []
 unfolding text_fault
-comments_write [] h = Writes-nothing
+comments_write [] h = writes_nothing
 comments_write (c ∷ cs) h =
-    Writes-more
+    writes_more
     (writes_comment (bytes "; " ++ c) (text_holds (all visible c) (none_left _ _ h)))
     (comments_write cs (none_right _ _ h))
 
 -- the comments and the blank line, if there are any
 heading_writes : (cs : List (List ℕ)) → each text_fault cs ≡ Sound → Writes (write_comments cs) []
-heading_writes [] h = Writes-nothing
-heading_writes (c ∷ cs) h = Writes-more (comments_write (c ∷ cs) h) Writes-blank
+heading_writes [] h = writes_nothing
+heading_writes (c ∷ cs) h = writes_more (comments_write (c ∷ cs) h) writes_blank
 
 -- the first part is the first command
 opening_writes : (cs : List (List ℕ)) → each text_fault cs ≡ Sound
     → Written (λ n. opening cs) (row (reserved "set-logic" ∷ symbol "HORN" ∷ []) ∷ [])
 unfolding opening reserved_words
-opening_writes cs h = more (more (command (kept "set-logic" tt ∣ word "HORN" tt ∣ end)) (plain Writes-blank)) (plain (heading_writes cs h))
+opening_writes cs h = more (more (command (kept "set-logic" tt ∣ word "HORN" tt ∣ end)) (plain writes_blank)) (plain (heading_writes cs h))
 
 -- the last part is the last command
 closing_writes : Written (λ n. closing) (row (reserved "check-sat" ∷ []) ∷ [])
 unfolding closing reserved_words
-closing_writes = more (plain Writes-blank) (command (kept "check-sat" tt ∣ end))
+closing_writes = more (plain writes_blank) (command (kept "check-sat" tt ∣ end))
 
 -- the parts of a task without fault write its commands
 script_parts : (t : Task) → task_fault t ≡ Sound → Parts (λ n. parts_of n t) (templates_of t)
@@ -234,12 +234,12 @@ script_parts t h =
     section (spelling env).constants t.constants (none_left _ _ h2) then
     section (spelling env).functions t.functions (none_left _ _ h3) then
     section (spelling env).kvars t.kvars (none_left _ _ h4)) then
-    one_part (plain Writes-blank) then
+    one_part (plain writes_blank) then
     section (assertion_writes env) (clauses_of t) (clauses_sound [] t.constraint [] [] refl refl (none_right _ _ h4)) then
     one_part closing_writes
 
 pub script_reading : (names : NameTable) → Valid names → (t : Task) → task_fault t ≡ Sound → Reading (script_of names t) (commands_of names t)
-script_reading names v t h = Written-Read ((script_parts t h).written.writes names v)
+script_reading names v t h = written_read ((script_parts t h).written.writes names v)
 
 pub script_read : ScriptRead
 script_read names v t h = cuts _ _ (script_reading names v t h)

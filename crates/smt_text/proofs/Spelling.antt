@@ -33,7 +33,7 @@ use Rattle.smt_text.specs.Text.{spaced, separated, sexp_list, applied, write_nam
 use Rattle.smt_text.specs.Template.{Template, append, fill, atom_sets, sets_in, Piece, filled, sets_among, Filled}
 use Rattle.smt_text.specs.Sexp.{token, row, group, applied_to, symbol, reserved, name_sexp, string_sexp, numeral, numbered, identifier_sexp, thy_func_sexp, sort_ctor_sexp, sort_sexp, sorts_sexp, binder_sexp, binders_sexp, constant_sexp, bin_op_sexp, atom_sexp, connective_sexp, quantifier_sexp, as_sexp, head_sexp, expr_sexp, exprs_sexp, pred_sexp, ctor_sexp, ctors_sexp, parameters_sexp, datatype_command, constant_command, body_command, function_command, kvar_command}
 use Rattle.smt_text.specs.Theorems.{Spelled, Written, Spelling}
-open composition use {says_token, says_nothing, says_list, says_row, Follows-nothing, follows_spaced, follows_list, writes_command}
+open composition use {says_token, says_nothing, says_list, says_row, follows_nothing, follows_spaced, follows_list, writes_command}
 open sound_parts use {none_left, none_right}
 
 -- PIECES
@@ -94,7 +94,7 @@ pub record Trailed (text : NameTable → List ℕ) (x : Template) : Type 0 where
 
 -- nothing
 pub trailed_nothing : Trailed (λ n. []) Template.end
-trailed_nothing = record { follows = λ n v. Follows-nothing; pieces = same [] }
+trailed_nothing = record { follows = λ n v. follows_nothing; pieces = same [] }
 
 -- a list with no space before it
 pub trailed_list : {u v : NameTable → List ℕ} {x y : Template} → Spelled u x → Trailed v y → Trailed (λ n. paren (u n) ++ v n) (Template.list x y)

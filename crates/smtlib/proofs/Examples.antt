@@ -19,7 +19,7 @@ use Rattle.smtlib.proofs.Cut.{unique, cuts}
 use Rattle.smtlib.proofs.Decimal.{decimal_spells, decimal_digits}
 use Rattle.smtlib.proofs.OneKind.{kind_of}
 use Rattle.smtlib.proofs.Reader.{read, read_sound, unread}
-open composition use {says_token, says_list, says_row, Follows-nothing, follows_spaced, follows_list, Writes-more, writes_command, Written-Read}
+open composition use {says_token, says_list, says_row, follows_nothing, follows_spaced, follows_list, writes_more, writes_command, written_read}
 
 -- a token before more of a row, by its kind
 abbrev the : Kind → String → Sexps → Sexps
@@ -118,7 +118,7 @@ binders : Says (paren (paren (bytes "x") ++ (paren (bytes "y") ++ []))) (list (l
 unfolding reserved_words
 binders =
     says_list (says_row (says_list (says_token (as_word symbol (bytes "x") tt)))
-    (follows_list (says_token (as_word symbol (bytes "y") tt)) Follows-nothing))
+    (follows_list (says_token (as_word symbol (bytes "y") tt)) follows_nothing))
 
 -- DECIMALS
 
@@ -186,11 +186,11 @@ mutual
   spelled : (e : Tree) → Named e → Says (text_of e) (sexp_of e)
   spelled (number n) h = says_token (decimal_spells n)
   spelled (variable x) h = says_token (as_word symbol x h)
-  spelled (negation e) h = says_list (says_row (says_token (as_word symbol (bytes "not") tt)) (follows_spaced (spelled e h) Follows-nothing))
+  spelled (negation e) h = says_list (says_row (says_token (as_word symbol (bytes "not") tt)) (follows_spaced (spelled e h) follows_nothing))
   spelled (conjunction es) h = says_list (says_row (says_token (as_word symbol (bytes "and") tt)) (all_spelled es h))
 
   all_spelled : (es : Trees) → AllNamed es → Follows (texts_of es) (sexps_of es)
-  all_spelled none_left h = Follows-nothing
+  all_spelled none_left h = follows_nothing
   all_spelled (more e es) h = follows_spaced (spelled e h.0) (all_spelled es h.1)
 
 -- `(assert E)` and `(check-sat)`, a line each
@@ -201,6 +201,6 @@ script_read : (e : Tree) → Named e
     → Reading (script_text e) (the reserved "assert" (append (sexp_of e) end) ∷ the reserved "check-sat" end ∷ [])
 unfolding script_text reserved_words
 script_read e h =
-    Written-Read (Writes-more
-    (writes_command (says_row (says_token (as_word reserved (bytes "assert") tt)) (follows_spaced (spelled e h) Follows-nothing)))
+    written_read (writes_more
+    (writes_command (says_row (says_token (as_word reserved (bytes "assert") tt)) (follows_spaced (spelled e h) follows_nothing)))
     (writes_command (says_token (as_word reserved (bytes "check-sat") tt))))
