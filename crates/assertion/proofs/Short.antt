@@ -56,7 +56,7 @@ module _ (s : List ℕ) (b : (i : ℕ) → get_or s i 0 < 256) (h : length s < 6
       let x = (binders enc v deepest).costs s b o f.binder i.p i.binds in
       let y = (rows (λ ps. wides (write_preds enc ps)) [] ◌∷◌ (omega arith) (λ p ps. omega arith) (preds enc v deepest)).costs s b i.p f.preds i.r all in
       let k = (each_covers.binders deepest).covered s o f.binder i.p i.binds in
-      let l = (wide_counted (λ ps. 0) [] ◌∷◌ (any_many [] ◌∷◌ (any (each_covers.preds deepest)))).covered s i.p f.preds i.r all in
+      let l = (wide_counted (λ ps. 0) [] ◌∷◌ _ (any_many [] ◌∷◌ (any (each_covers.preds deepest)))).covered s i.p f.preds i.r all in
       let m = k.inside (omega (arith, k.room)) in
       let n = l.inside (omega (arith, l.room)) in
       let ws = spaced_length (write_preds enc (kept f.preds)) in

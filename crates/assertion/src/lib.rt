@@ -63,7 +63,7 @@ fn write_each_var(s: &[u8], path: Path, enc: &[u16], buf: &mut [u8], out: Out) -
 fn write_guard(s: &[u8], from: Listed, enc: &[u16], buf: &mut [u8]) -> Listed
     requires { Chained s.now enc.now × (from.count < most) }
     ensures runs { Runs (λ w p. lists (encoder_in s.now enc.now) w (p ∷ [])) (dec_pred deepest s.now from.at) (listing buf.old from.out.len from.count) (listing buf.new result.out.len result.count) result.at }
-    ensures count_bound { result.count ≤ from.count + 1 }
+    ensures one_more { result.count ≤ from.count + 1 }
 {
     let at = from.at;
     let out = from.out;

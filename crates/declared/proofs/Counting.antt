@@ -37,7 +37,7 @@ fields_wide n = covers_many (λ fs. owed (field_symbols fs)) (λ b. 3) [] ◌∷
 ctors_wide : Covers (λ c. owed (ctor_symbols c)) data_ctor
 ctors_wide =
     covers_bind (λ c. owed (ctor_symbols c)) (λ x. 2) name _ wide_names (λ x.
-    covers_bind (λ c. owed (ctor_symbols c) - 2) (λ fs. 2 + owed (field_symbols fs)) (counted [] ◌∷◌ (binder deepest)) _ (wide_counted (λ fs. owed (field_symbols fs)) [] ◌∷◌ fields_wide) (λ fs.
+    covers_bind (λ c. owed (ctor_symbols c) - 2) (λ fs. 2 + owed (field_symbols fs)) (counted [] ◌∷◌ (binder deepest)) _ (wide_counted (λ fs. owed (field_symbols fs)) [] ◌∷◌ _ fields_wide) (λ fs.
     covers_give (λ c. owed (ctor_symbols c) - 2 - (2 + owed (field_symbols fs))) _ (omega arith)))
 
 rows_wide : (n : ℕ) → Covers (λ cs. owed (ctors_symbols cs)) (many [] ◌∷◌ data_ctor n)
@@ -48,7 +48,7 @@ datatypes_wide : Covers (λ d. owed (datatype_symbols d)) datatype
 datatypes_wide =
     covers_bind (λ d. owed (datatype_symbols d)) (λ x. 2) name _ wide_names (λ x.
     covers_bind (λ d. owed (datatype_symbols d) - 2) (λ v. 2) (number 2) _ (covers_number 2) (λ v.
-    covers_bind (λ d. owed (datatype_symbols d) - 2 - 2) (λ cs. 2 + owed (ctors_symbols cs)) (counted [] ◌∷◌ data_ctor) _ (wide_counted (λ cs. owed (ctors_symbols cs)) [] ◌∷◌ rows_wide) (λ cs.
+    covers_bind (λ d. owed (datatype_symbols d) - 2 - 2) (λ cs. 2 + owed (ctors_symbols cs)) (counted [] ◌∷◌ data_ctor) _ (wide_counted (λ cs. owed (ctors_symbols cs)) [] ◌∷◌ _ rows_wide) (λ cs.
     covers_give (λ d. owed (datatype_symbols d) - 2 - 2 - (2 + owed (ctors_symbols cs))) _ (omega arith))))
 
 -- symbols taken of a piece

@@ -174,7 +174,7 @@ fn push_items(file: &[u8], b: Bounds, section: Section, table: &mut [u16])
 // Puts the datatypes and constants of the file into an empty table with as many words for entries as the file has bytes.
 pub fn declare(file: &[u8], b: Bounds, table: &mut [u16])
     requires inside { Inside file.now b × Blank table.old }
-    requires file_in_bounds { 1026 + length file.now ≤ length table.old }
+    requires room { 1026 + length file.now ≤ length table.old }
     ensures { Declared file.now b table.old table.new }
 {
     push_items(file, b, Section::Datatypes, table);

@@ -392,9 +392,9 @@ fn flatten_heads(
     lengths: &mut [u32],
 ) -> Row
     requires chained { Chained s.now enc.now × (enough_is (length text.now) (length buf.old) row.from.kept ≡ true) }
-    requires at_value { (is_head levels s.now row.from.moved.at ≡ true) × (0 < row.left) }
+    requires at_head { (is_head levels s.now row.from.moved.at ≡ true) × (0 < row.left) }
     ensures heads_put { HeadsPut s.now enc.now text.now levels row (writing row.from.moved.progress buf.old lengths.old) result (writing result.from.moved.progress buf.new lengths.new) }
-    ensures left_lt_left { (result.left < row.left) × (result.from.kept ≡ row.from.kept) }
+    ensures fewer_left { (result.left < row.left) × (result.from.kept ≡ row.from.kept) }
 {
     let from = row.from;
     let kept = from.kept;

@@ -91,7 +91,7 @@ fn is_at(s: &[u8], at: usize, name: &[u8]) -> bool
 
 // Whether entry k has the name and a kind in the range.
 fn is_entry(s: &[u8], table: &[u16], k: usize, name: &[u8], lowest: u16, highest: u16) -> bool
-    requires k_in_bounds { 1026 + 3 * k + 2 < length table.now }
+    requires within { 1026 + 3 * k + 2 < length table.now }
     requires named { Named s.now (get_or table.now (1026 + 3 * k + 1) 0) }
     ensures { result ≡ fits name.now lowest highest (symbol_of s.now table.now k) }
 {
@@ -151,7 +151,7 @@ fn room_for(words: usize, n: usize) -> bool
 // Entry n: its three words, the head of its bucket and the number of entries.
 fn place(s: &[u8], table: &mut [u16], n: usize, offset: usize, kind: u16)
     requires chained { Chained s.now table.old × (n ≡ count_of table.old) }
-    requires n_bound { (n < 65535) × (1026 + 3 * n + 3 ≤ length table.old) × (offset < 65536) × Named s.now offset }
+    requires room { (n < 65535) × (1026 + 3 * n + 3 ≤ length table.old) × (offset < 65536) × Named s.now offset }
     ensures { Pushed s.now table.old offset kind table.new }
 {
     let at = 1026 + 3 * n;

@@ -434,7 +434,7 @@ fn scope_functions(file: &[u8], at: usize, end: usize, table: &mut [u16]) -> Fau
 // The fault of the names of a task that has no other fault. The names that it declares are put into an empty table.
 pub fn judge_names(file: &[u8], b: Bounds, table: &mut [u16]) -> Fault
     requires sectioned { Sectioned file.now b × Blank table.old }
-    requires file_in_bounds { 1026 + length file.now ≤ length table.old }
+    requires room { 1026 + length file.now ≤ length table.old }
     ensures { NamesJudged file.now result table.new }
 {
     declared::declare(file, b, table);

@@ -226,7 +226,7 @@ pub fn part(file: &[u8], edition: Edition, i: usize, buf: &mut [u8]) -> Written
 // Writes the script to the buffer's start; or survey's refusal, then 9 if it is longer than the buffer. What the buffer then holds carries
 // demand 3.
 pub fn script(file: &[u8], edition: Edition, buf: &mut [u8]) -> Written
-    ensures result_value { (written result ≡ script_answer (names_of edition) file.now (length buf.old)) × (buf.new ≡ script_buffer (names_of edition) file.now buf.old) }
+    ensures written { (written result ≡ script_answer (names_of edition) file.now (length buf.old)) × (buf.new ≡ script_buffer (names_of edition) file.now buf.old) }
     ensures promised { Promised (names_of edition) file.now buf.old buf.new }
 {
     let mut lengths = [0u32; 0];

@@ -237,8 +237,8 @@ wide_names = covers_bind (λ x. 2) (λ n. 1) (number 1) (λ n. cond (eqb n 0) (r
     rest (suc n) = rw (ne_eqb (suc n) 0 (λ e. omega arith)) (covers_less (λ w. suc n) (λ w. 1) (raw (suc n)) (λ w. omega arith) (covers_raw (suc n)))
 
 -- counted pieces take two bytes besides their own
-pub wide_counted : {A B : Type 0} (size : B → ℕ) (end : B) (more : A → B → B) {d : Decoder A} → ((n : ℕ) → Covers size (many end more d n)) → Covers (λ b. 2 + size b) (counted end more d)
-wide_counted size end more {d} c =
+pub wide_counted : {A B : Type 0} (size : B → ℕ) (end : B) (more : A → B → B) (d : Decoder A) → ((n : ℕ) → Covers size (many end more d n)) → Covers (λ b. 2 + size b) (counted end more d)
+wide_counted size end more d c =
     covers_bind (λ b. 2 + size b) (λ n. 2) (number 2) (many end more d) (covers_number 2)
     (λ n. covers_less size (λ b. 2 + size b - 2) (many end more d n) (λ b. omega arith) (c n))
 
@@ -251,4 +251,4 @@ wide_functions =
 pub wide_kvars : Covers (λ k. 3) kvar
 wide_kvars =
     covers_bind (λ k. 3) (λ x. 2) name _ wide_names (λ n.
-    covers_bind (λ k. 1) (λ bs. 2) (counted Sorts.none Sorts.more (dec_sort deepest)) _ (wide_counted (λ bs. 0) Sorts.none Sorts.more (any_many Sorts.none Sorts.more (any (sorts deepest)))) (λ bs. nothing))
+    covers_bind (λ k. 1) (λ bs. 2) (counted Sorts.none Sorts.more (dec_sort deepest)) _ (wide_counted (λ bs. 0) Sorts.none Sorts.more (dec_sort deepest) (any_many Sorts.none Sorts.more (any (sorts deepest)))) (λ bs. nothing))
