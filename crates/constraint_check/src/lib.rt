@@ -82,7 +82,7 @@ fn check_head(s: &[u8], at: usize, levels: usize) -> Counted
 }
 
 // The constraint at a position, inside the ForAlls of the path.
-#[cycle(check_for_all_check_members_check_within)]
+#[cycle(constraints)]
 fn check_within(s: &[u8], at: usize, levels: usize, path: Path) -> Counted
     requires { Leaves path levels × (length s.now < 65536) }
     ensures { result ≡ tally (constraint_fault (names_on s.now (entries path))) heads_of (dec_constraint levels s.now at) }
@@ -104,7 +104,7 @@ fn check_within(s: &[u8], at: usize, levels: usize, path: Path) -> Counted
 }
 
 // n constraints in a row.
-#[cycle(check_for_all_check_members_check_within)]
+#[cycle(constraints)]
 fn check_members(s: &[u8], at: usize, n: u64, levels: usize, path: Path) -> Counted
     requires { Leaves path levels × (length s.now < 65536) }
     ensures { result ≡ tally (constraints_fault (names_on s.now (entries path))) heads_in (many Constraints.none Constraints.more (dec_constraint levels) n s.now at) }
@@ -169,7 +169,7 @@ pub fn check_header(s: &[u8], at: usize, levels: usize) -> Walked
 }
 
 // A ForAll behind its code: header and body.
-#[cycle(check_for_all_check_members_check_within)]
+#[cycle(constraints)]
 fn check_for_all(s: &[u8], at: usize, levels: usize, mut path: Path) -> Counted
     requires { Leaves path (levels + 1) × (length s.now < 65536) }
     ensures { result ≡ tally (constraint_fault (names_on s.now (entries path))) heads_of (for_all levels s.now at) }

@@ -435,7 +435,7 @@ fn flatten_head(
 }
 
 // The constraint at a position, inside the ForAlls of the path.
-#[cycle(flatten_constraint_flatten_for_all_flatten_members)]
+#[cycle(constraints)]
 pub fn flatten_constraint(
     s: &[u8],
     from: Walk,
@@ -479,7 +479,7 @@ pub fn flatten_constraint(
 }
 
 // Constraints in a row, each inside the same ForAlls. Heads for which what is kept is enough need no copy of the path.
-#[cycle(flatten_constraint_flatten_for_all_flatten_members)]
+#[cycle(constraints)]
 fn flatten_members(
     s: &[u8],
     row: Row,
@@ -519,7 +519,7 @@ fn flatten_members(
 }
 
 // A ForAll behind its code: its body is inside it too. What it has is added for the body, and taken back behind it.
-#[cycle(flatten_constraint_flatten_for_all_flatten_members)]
+#[cycle(constraints)]
 fn flatten_for_all(
     s: &[u8],
     from: Walk,

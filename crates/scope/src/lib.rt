@@ -101,7 +101,7 @@ fn scope_parts(s: &[u8], node: ExprNode, table: &[u16]) -> ScopeParts
 }
 
 // The expression at a position: where it ends, and the fault of its names.
-#[cycle(scope_app_scope_expr_scope_exprs_scope_let_scope_quantifier)]
+#[cycle(exprs)]
 pub fn scope_expr(s: &[u8], at: usize, levels: usize, table: &mut [u16]) -> Walked
     requires { Space s.now table.old at }
     ensures { (result ≡ walked (expr_in s.now table.old) (dec_expr levels s.now at)) × Restored s.now table.old table.new }
@@ -122,7 +122,7 @@ pub fn scope_expr(s: &[u8], at: usize, levels: usize, table: &mut [u16]) -> Walk
 }
 
 // n expressions in a row.
-#[cycle(scope_app_scope_expr_scope_exprs_scope_let_scope_quantifier)]
+#[cycle(exprs)]
 fn scope_exprs(s: &[u8], at: usize, n: u64, levels: usize, table: &mut [u16]) -> Walked
     requires { Space s.now table.old at }
     ensures { (result ≡ walked (exprs_in s.now table.old) (many Exprs.none Exprs.more (dec_expr levels) n s.now at)) × Restored s.now table.old table.new }
@@ -143,7 +143,7 @@ fn scope_exprs(s: &[u8], at: usize, n: u64, levels: usize, table: &mut [u16]) ->
 }
 
 // An application behind its flag: the output sort, the head, and counted arguments.
-#[cycle(scope_app_scope_expr_scope_exprs_scope_let_scope_quantifier)]
+#[cycle(exprs)]
 fn scope_app(s: &[u8], at: usize, has: bool, levels: usize, table: &mut [u16]) -> Walked
     requires { Space s.now table.old at }
     ensures { (result ≡ walked (expr_in s.now table.old) (applied levels has s.now at)) × Restored s.now table.old table.new }
@@ -164,7 +164,7 @@ fn scope_app(s: &[u8], at: usize, has: bool, levels: usize, table: &mut [u16]) -
 }
 
 // A Let behind its code: its name is known in its second operand.
-#[cycle(scope_app_scope_expr_scope_exprs_scope_let_scope_quantifier)]
+#[cycle(exprs)]
 fn scope_let(s: &[u8], at: usize, levels: usize, table: &mut [u16]) -> Walked
     requires { Space s.now table.old at × (3 * length (entries s.now table.old) < at) }
     ensures { (result ≡ walked (expr_in s.now table.old) (let_form levels s.now at)) × Restored s.now table.old table.new }
@@ -184,7 +184,7 @@ fn scope_let(s: &[u8], at: usize, levels: usize, table: &mut [u16]) -> Walked
 }
 
 // A quantifier behind its count: its names are known in its body.
-#[cycle(scope_app_scope_expr_scope_exprs_scope_let_scope_quantifier)]
+#[cycle(exprs)]
 fn scope_quantifier(s: &[u8], at: usize, n: u64, levels: usize, table: &mut [u16]) -> Walked
     requires { Space s.now table.old at }
     ensures { (result ≡ walked (expr_in s.now table.old) (quantified levels n s.now at)) × Restored s.now table.old table.new }
@@ -270,7 +270,7 @@ pub fn scope_preds(s: &[u8], at: usize, n: u64, levels: usize, table: &mut [u16]
 }
 
 // The constraint at a position: where it ends, and the fault of its names.
-#[cycle(scope_constraint_scope_for_all_scope_members_scope_under)]
+#[cycle(constraints)]
 pub fn scope_constraint(s: &[u8], at: usize, levels: usize, table: &mut [u16]) -> Walked
     requires { Space s.now table.old at }
     ensures { (result ≡ walked (constraint_in s.now table.old) (dec_constraint levels s.now at)) × Restored s.now table.old table.new }
@@ -289,7 +289,7 @@ pub fn scope_constraint(s: &[u8], at: usize, levels: usize, table: &mut [u16]) -
 }
 
 // n constraints in a row.
-#[cycle(scope_constraint_scope_for_all_scope_members_scope_under)]
+#[cycle(constraints)]
 fn scope_members(s: &[u8], at: usize, n: u64, levels: usize, table: &mut [u16]) -> Walked
     requires { Space s.now table.old at }
     ensures { (result ≡ walked (constraints_in s.now table.old) (many Constraints.none Constraints.more (dec_constraint levels) n s.now at)) × Restored s.now table.old table.new }
@@ -310,7 +310,7 @@ fn scope_members(s: &[u8], at: usize, n: u64, levels: usize, table: &mut [u16]) 
 }
 
 // A ForAll behind its code: its name is known in its predicates and its body.
-#[cycle(scope_constraint_scope_for_all_scope_members_scope_under)]
+#[cycle(constraints)]
 fn scope_for_all(s: &[u8], at: usize, levels: usize, table: &mut [u16]) -> Walked
     requires { Space s.now table.old at × (3 * length (entries s.now table.old) < at) }
     ensures { (result ≡ walked (constraint_in s.now table.old) (for_all levels s.now at)) × Restored s.now table.old table.new }
@@ -335,7 +335,7 @@ fn scope_for_all(s: &[u8], at: usize, levels: usize, table: &mut [u16]) -> Walke
 }
 
 // A ForAll behind the number of its predicates: these, and the body.
-#[cycle(scope_constraint_scope_for_all_scope_members_scope_under)]
+#[cycle(constraints)]
 fn scope_under(s: &[u8], at: usize, n: u64, levels: usize, table: &mut [u16]) -> Walked
     requires { Space s.now table.old at }
     ensures { (result ≡ walked (under_in s.now table.old) (under_form levels n s.now at)) × Restored s.now table.old table.new }

@@ -41,7 +41,7 @@ fn write_function(func: ThyFunc, p: usize, enc: &[u16], buf: &mut [u8], out: Out
 }
 
 // Sends the expression at a position.
-#[cycle(write_app_write_application_head_write_atom_write_bin_op_write_binary_write_expr_write_exprs_write_is_ctor_write_ite_write_let_write_nary_write_ne_write_quantifier_write_unary)]
+#[cycle(exprs)]
 pub fn write_expr(s: &[u8], at: usize, levels: usize, enc: &[u16], buf: &mut [u8], out: Out) -> Sent
     requires { Chained s.now enc.now }
     ensures { Sends (write_expr (encoder_in s.now enc.now)) (dec_expr levels s.now at) (output buf.old out.len) (output buf.new result.out.len) result.at }
@@ -82,7 +82,7 @@ pub fn write_expr(s: &[u8], at: usize, levels: usize, enc: &[u16], buf: &mut [u8
 }
 
 // Sends n expressions, a space before each.
-#[cycle(write_app_write_application_head_write_atom_write_bin_op_write_binary_write_expr_write_exprs_write_is_ctor_write_ite_write_let_write_nary_write_ne_write_quantifier_write_unary)]
+#[cycle(exprs)]
 pub fn write_exprs(
     s: &[u8],
     at: usize,
@@ -109,7 +109,7 @@ pub fn write_exprs(
 }
 
 // An operation of one operand.
-#[cycle(write_app_write_application_head_write_atom_write_bin_op_write_binary_write_expr_write_exprs_write_is_ctor_write_ite_write_let_write_nary_write_ne_write_quantifier_write_unary)]
+#[cycle(exprs)]
 fn write_unary(
     s: &[u8],
     op: &[u8],
@@ -135,7 +135,7 @@ fn write_unary(
 }
 
 // An operation of two operands.
-#[cycle(write_app_write_application_head_write_atom_write_bin_op_write_binary_write_expr_write_exprs_write_is_ctor_write_ite_write_let_write_nary_write_ne_write_quantifier_write_unary)]
+#[cycle(exprs)]
 fn write_binary(
     s: &[u8],
     op: &[u8],
@@ -164,7 +164,7 @@ fn write_binary(
 }
 
 // An operation by its code.
-#[cycle(write_app_write_application_head_write_atom_write_bin_op_write_binary_write_expr_write_exprs_write_is_ctor_write_ite_write_let_write_nary_write_ne_write_quantifier_write_unary)]
+#[cycle(exprs)]
 fn write_bin_op(
     s: &[u8],
     op: BinOp,
@@ -187,7 +187,7 @@ fn write_bin_op(
 }
 
 // A relation by its code.
-#[cycle(write_app_write_application_head_write_atom_write_bin_op_write_binary_write_expr_write_exprs_write_is_ctor_write_ite_write_let_write_nary_write_ne_write_quantifier_write_unary)]
+#[cycle(exprs)]
 fn write_atom(
     s: &[u8],
     rel: BinRel,
@@ -211,7 +211,7 @@ fn write_atom(
 }
 
 // That two operands are not equal.
-#[cycle(write_app_write_application_head_write_atom_write_bin_op_write_binary_write_expr_write_exprs_write_is_ctor_write_ite_write_let_write_nary_write_ne_write_quantifier_write_unary)]
+#[cycle(exprs)]
 fn write_ne(s: &[u8], at: usize, levels: usize, enc: &[u16], buf: &mut [u8], out: Out) -> Sent
     requires { Chained s.now enc.now }
     ensures { Sends (atom_text (encoder_in s.now enc.now) BinRel.Ne) (two levels s.now at) (output buf.old out.len) (output buf.new result.out.len) result.at }
@@ -239,7 +239,7 @@ fn close_list(last: Sent, buf: &mut [u8]) -> Sent
 }
 
 // A connective of n members, the first at a position; a word of its own for none.
-#[cycle(write_app_write_application_head_write_atom_write_bin_op_write_binary_write_expr_write_exprs_write_is_ctor_write_ite_write_let_write_nary_write_ne_write_quantifier_write_unary)]
+#[cycle(exprs)]
 fn write_nary(
     s: &[u8],
     op: &[u8],
@@ -265,7 +265,7 @@ fn write_nary(
 }
 
 // A choice of two.
-#[cycle(write_app_write_application_head_write_atom_write_bin_op_write_binary_write_expr_write_exprs_write_is_ctor_write_ite_write_let_write_nary_write_ne_write_quantifier_write_unary)]
+#[cycle(exprs)]
 fn write_ite(s: &[u8], at: usize, levels: usize, enc: &[u16], buf: &mut [u8], out: Out) -> Sent
     requires { Chained s.now enc.now }
     ensures { Sends (write_expr (encoder_in s.now enc.now)) (expr_of s.now levels (dec_expr levels) (ExprNode.IfThenElse at)) (output buf.old out.len) (output buf.new result.out.len) result.at }
@@ -287,7 +287,7 @@ fn write_ite(s: &[u8], at: usize, levels: usize, enc: &[u16], buf: &mut [u8], ou
 }
 
 // A name for an expression in another.
-#[cycle(write_app_write_application_head_write_atom_write_bin_op_write_binary_write_expr_write_exprs_write_is_ctor_write_ite_write_let_write_nary_write_ne_write_quantifier_write_unary)]
+#[cycle(exprs)]
 fn write_let(
     s: &[u8],
     x: Span,
@@ -316,7 +316,7 @@ fn write_let(
 }
 
 // A test for a constructor.
-#[cycle(write_app_write_application_head_write_atom_write_bin_op_write_binary_write_expr_write_exprs_write_is_ctor_write_ite_write_let_write_nary_write_ne_write_quantifier_write_unary)]
+#[cycle(exprs)]
 fn write_is_ctor(
     s: &[u8],
     x: Span,
@@ -342,7 +342,7 @@ fn write_is_ctor(
 }
 
 // A quantifier over n names.
-#[cycle(write_app_write_application_head_write_atom_write_bin_op_write_binary_write_expr_write_exprs_write_is_ctor_write_ite_write_let_write_nary_write_ne_write_quantifier_write_unary)]
+#[cycle(exprs)]
 fn write_quantifier(
     s: &[u8],
     q: Quantifier,
@@ -371,7 +371,7 @@ fn write_quantifier(
 }
 
 // The head at a position; its output sort, if it has one, stands at `from`.
-#[cycle(write_app_write_application_head_write_atom_write_bin_op_write_binary_write_expr_write_exprs_write_is_ctor_write_ite_write_let_write_nary_write_ne_write_quantifier_write_unary)]
+#[cycle(exprs)]
 fn write_application_head(
     s: &[u8],
     has: bool,
@@ -405,7 +405,7 @@ fn write_application_head(
 }
 
 // An application: the number of its arguments stands behind its head.
-#[cycle(write_app_write_application_head_write_atom_write_bin_op_write_binary_write_expr_write_exprs_write_is_ctor_write_ite_write_let_write_nary_write_ne_write_quantifier_write_unary)]
+#[cycle(exprs)]
 fn write_app(
     s: &[u8],
     has: bool,

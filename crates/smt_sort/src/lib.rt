@@ -83,7 +83,7 @@ fn write_sort_ctor(s: &[u8], ctor: SortCtor, buf: &mut [u8], out: Out) -> Out
 }
 
 // Sends the sort at a position.
-#[cycle(write_applied_write_array_write_bit_vec_write_data_write_sort_write_sorts)]
+#[cycle(sorts)]
 pub fn write_sort(s: &[u8], at: usize, levels: usize, enc: &[u16], buf: &mut [u8], out: Out) -> Sent
     requires { Chained s.now enc.now }
     ensures { Sends (write_sort (encoder_in s.now enc.now)) (dec_sort levels s.now at) (output buf.old out.len) (output buf.new result.out.len) result.at }
@@ -111,7 +111,7 @@ pub fn write_sort(s: &[u8], at: usize, levels: usize, enc: &[u16], buf: &mut [u8
 }
 
 // A BitVec with its width.
-#[cycle(write_applied_write_array_write_bit_vec_write_data_write_sort_write_sorts)]
+#[cycle(sorts)]
 fn write_bit_vec(s: &[u8], at: usize, levels: usize, enc: &[u16], buf: &mut [u8], out: Out) -> Sent
     requires { Chained s.now enc.now }
     ensures { Sends (write_sort (encoder_in s.now enc.now)) (sort_of s.now (dec_sort levels) (SortNode.BitVec at)) (output buf.old out.len) (output buf.new result.out.len) result.at }
@@ -127,7 +127,7 @@ fn write_bit_vec(s: &[u8], at: usize, levels: usize, enc: &[u16], buf: &mut [u8]
 }
 
 // A Func as an array.
-#[cycle(write_applied_write_array_write_bit_vec_write_data_write_sort_write_sorts)]
+#[cycle(sorts)]
 fn write_array(s: &[u8], at: usize, levels: usize, enc: &[u16], buf: &mut [u8], out: Out) -> Sent
     requires { Chained s.now enc.now }
     ensures { Sends (write_sort (encoder_in s.now enc.now)) (sort_of s.now (dec_sort levels) (SortNode.Func at)) (output buf.old out.len) (output buf.new result.out.len) result.at }
@@ -146,7 +146,7 @@ fn write_array(s: &[u8], at: usize, levels: usize, enc: &[u16], buf: &mut [u8], 
 }
 
 // A sort that is made by another, or of n others.
-#[cycle(write_applied_write_array_write_bit_vec_write_data_write_sort_write_sorts)]
+#[cycle(sorts)]
 fn write_applied(
     s: &[u8],
     ctor: SortCtor,
@@ -176,7 +176,7 @@ fn write_applied(
 }
 
 // A datatype, or `Int` for one that is not declared.
-#[cycle(write_applied_write_array_write_bit_vec_write_data_write_sort_write_sorts)]
+#[cycle(sorts)]
 fn write_data(
     s: &[u8],
     x: Span,
@@ -201,7 +201,7 @@ fn write_data(
 }
 
 // Sends n sorts, a space before each.
-#[cycle(write_applied_write_array_write_bit_vec_write_data_write_sort_write_sorts)]
+#[cycle(sorts)]
 fn write_sorts(
     s: &[u8],
     at: usize,

@@ -18,11 +18,11 @@ module _ (p : ℕ → Bool) (t : List ℕ) (i : ℕ) (f f' b x : Bool) (h : i < 
   next : all p (drop i t) ≡ (p (get_or t i 0) && all p (drop (i + 1) t))
   next = rw (add-one i, drop-cons t i 0 h)
 
-  pub byte_fails : not b ≡ true → f' ≡ false → (f' && all p (drop (i + 1) t)) ≡ x
-  byte_fails n u = rw u (rw (next, ← e, is_false b (true_holds n), and-false f) at z)
+  pub byte_fails : b ≡ false → f' ≡ false → (f' && all p (drop (i + 1) t)) ≡ x
+  byte_fails n u = rw u (rw (next, ← e, n, and-false f) at z)
 
-  pub byte_passes : not b ≡ false → f' ≡ f → (f' && all p (drop (i + 1) t)) ≡ x
-  byte_passes n u = rw u (rw (next, ← e, set_is b n) at z)
+  pub byte_passes : b ≡ true → f' ≡ f → (f' && all p (drop (i + 1) t)) ≡ x
+  byte_passes n u = rw u (rw (next, ← e, n) at z)
 
 pub bytes_end : (p : ℕ → Bool) (t : List ℕ) (i : ℕ) (f x : Bool) → length t ≤ i → (f && all p (drop i t)) ≡ x → f ≡ x
 bytes_end p t i f x h z = rw (drop_of_length-le t h, and-true f) at z

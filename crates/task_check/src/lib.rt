@@ -163,7 +163,7 @@ fn sort_parts(s: &[u8], node: SortNode, under: bool) -> SortParts
 }
 
 // The sort at a position. `under` tells whether it stands directly under BitVec.
-#[cycle(check_sort_check_sorts)]
+#[cycle(sorts)]
 pub fn check_sort(s: &[u8], at: usize, levels: usize, under: bool) -> Walked
     ensures { result ≡ walked (sort_fault under) (dec_sort levels s.now at) }
 {
@@ -181,7 +181,7 @@ pub fn check_sort(s: &[u8], at: usize, levels: usize, under: bool) -> Walked
 }
 
 // n sorts in a row.
-#[cycle(check_sort_check_sorts)]
+#[cycle(sorts)]
 pub fn check_sorts(s: &[u8], at: usize, n: u64, levels: usize) -> Walked
     ensures { result ≡ walked sorts_fault (many Sorts.none Sorts.more (dec_sort levels) n s.now at) }
 {
@@ -295,7 +295,7 @@ fn expr_parts(s: &[u8], node: ExprNode, head: bool) -> ExprParts
 }
 
 // The expression at a position. `head` tells whether it is the head of an application with an output sort.
-#[cycle(check_app_check_expr_check_exprs_check_quantifier)]
+#[cycle(exprs)]
 pub fn check_expr(s: &[u8], at: usize, levels: usize, head: bool) -> Walked
     ensures { result ≡ walked (expr_fault head) (dec_expr levels s.now at) }
 {
@@ -314,7 +314,7 @@ pub fn check_expr(s: &[u8], at: usize, levels: usize, head: bool) -> Walked
 }
 
 // n expressions in a row.
-#[cycle(check_app_check_expr_check_exprs_check_quantifier)]
+#[cycle(exprs)]
 pub fn check_exprs(s: &[u8], at: usize, n: u64, levels: usize) -> Walked
     ensures { result ≡ walked exprs_fault (many Exprs.none Exprs.more (dec_expr levels) n s.now at) }
 {
@@ -334,7 +334,7 @@ pub fn check_exprs(s: &[u8], at: usize, n: u64, levels: usize) -> Walked
 }
 
 // An application behind its flag: the output sort, the head, and counted arguments.
-#[cycle(check_app_check_expr_check_exprs_check_quantifier)]
+#[cycle(exprs)]
 fn check_app(s: &[u8], at: usize, has: bool, levels: usize) -> Walked
     ensures { result ≡ walked (expr_fault false) (applied levels has s.now at) }
 {
@@ -354,7 +354,7 @@ fn check_app(s: &[u8], at: usize, has: bool, levels: usize) -> Walked
 }
 
 // A quantifier behind its count: names with their sorts, and the body.
-#[cycle(check_app_check_expr_check_exprs_check_quantifier)]
+#[cycle(exprs)]
 fn check_quantifier(s: &[u8], at: usize, n: u64, levels: usize) -> Walked
     ensures { result ≡ walked (expr_fault false) (quantified levels n s.now at) }
 {
