@@ -32,8 +32,8 @@ pub quotes_end : (t : List ℕ) (i : ℕ) (f x : Bool) → length t ≤ i → (f
 quotes_end t i f x h z = rw (drop_of_length-le t h, or-false f) at z
 
 -- without a quotation mark the bytes are sent as they are
-pub sent_plain : (t : List ℕ) (o o' : Output) (found : Bool) → found ≡ any is_quote t → not found ≡ true → o' ≡ emits o t → o' ≡ emits o (doubled t)
-sent_plain t o o' found u v e = rw (unquoted t (sym u ∙ is_false found (true_holds v))) e
+pub sent_plain : (t : List ℕ) (o o' : Output) (found : Bool) → found ≡ any is_quote t → found ≡ false → o' ≡ emits o t → o' ≡ emits o (doubled t)
+sent_plain t o o' found u v e = rw (unquoted t (sym u ∙ v)) e
 
 -- a byte of a string that is a quotation mark, and one that is none
 module _ (o : Output) (b : ℕ) where

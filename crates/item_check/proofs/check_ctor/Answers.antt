@@ -1,0 +1,12 @@
+-- check_ctor walks a name and counted fields.
+use Rattle.item_check.proofs.Walks.{ctor_walks}
+use Rattle.item_check.proofs.check_ctor.Goals as goal
+
+pub returns-in_default : goal.returns-in_default
+returns-in_default c = rw (c.read_name-name.ensures, c.in_default.is)
+
+pub returns-in_default-count : goal.returns-in_default-count
+returns-in_default-count c = rw (c.read_name-name.ensures, c.in-At.is, c.number_at-count.ensures, c.in_default-count.is)
+
+pub returns : goal.returns
+returns c = search ctor_walks
