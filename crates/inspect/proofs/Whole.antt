@@ -7,9 +7,6 @@ use native.Mathlib.Nat.{zero-add, add_assoc}
 use lib.Dec.{eqb}
 use lib.ListN.{length, take, length-take}
 use native.Mathlib.Omega.{arith}
-use types.Run.{OneOf, miss}
-use denote.Enum.Declared.{tag_of}
-use Rattle.item_check.specs.contracts.Section.{the_type as section_type}
 use Rattle.item_check.specs.declared.Section.{Section}
 use Rattle.task.specs.declared.Fault.{Fault}
 use Rattle.task.specs.Ast.{DataDecl, Binder, FunDef, KVarDecl, Constraint, Task}
@@ -53,11 +50,11 @@ section_is KVars s at = listed_walks kvar_fault kvar s (length s) at
 
 -- the code's answer for a section
 module _ (k : Section) (s : List ℕ) (at : ℕ) (v : Listed) (e : v ≡ walk_items (length s) (item_walk k s) (length s) at) where
-  pub part_counted : OneOf (1 ∷ 2 ∷ 3 ∷ 4 ∷ []) (tag_of section_type k) → v ≡ section_of k s at
+  pub part_counted : (k ≡ Comments → ⊥) → v ≡ section_of k s at
   part_counted o = e ∙ sym (section_is k s at ∙ go k o (walk_items (length s) (item_walk k s) (length s) at))
     where
-      go : (k : Section) → OneOf (1 ∷ 2 ∷ 3 ∷ 4 ∷ []) (tag_of section_type k) → (x : Listed) → taken k x ≡ x
-      go Comments o x = absurd (miss (1 ∷ 2 ∷ 3 ∷ 4 ∷ []) 0 tt o)
+      go : (k : Section) → (k ≡ Comments → ⊥) → (x : Listed) → taken k x ≡ x
+      go Comments o x = absurd (o refl)
       go Datatypes o x = refl
       go Constants o x = refl
       go Functions o x = refl

@@ -3,8 +3,6 @@ use mathlib.Core.Path.{◌≡◌, refl, sym, ap, ◌∙◌}
 use mathlib.Core.Bool.{Bool, false}
 use mathlib.Core.List.{List, [], ◌∷◌}
 use Prim.Native.Nat.{ℕ, zero, suc}
-use types.Run.{OneOf, miss}
-use denote.Enum.Declared.{tag_of}
 use Rattle.smtlib.specs.Lexicon.{is_one}
 use Rattle.task.specs.declared.Span.{Span}
 use Rattle.task.specs.declared.ThyFunc.{ThyFunc}
@@ -14,7 +12,6 @@ use Rattle.task.specs.Ast.{Expr, Exprs}
 use Rattle.task.specs.Decode.{Res, got, refuse, bind, Decoder, many, counted, binder, given, dec_expr}
 use Rattle.task.specs.Fault.{needs_sort}
 use Rattle.task.specs.Node.{bytes_of, expr_of, ExprAt}
-use Rattle.task.specs.contracts.ExprNode.{the_type}
 use Rattle.task.proofs.Reading.{got_refuse}
 use Rattle.task_check.proofs.Preds.{behind as behind_all}
 use Rattle.smt_text.specs.Encoder.{Encoder, is_qualified}
@@ -27,40 +24,36 @@ abbrev qualified_in : Encoder → Res Expr → Bool
 qualified_in enc (got h p) = is_qualified enc.declares h
 qualified_in enc (refuse k) = false
 
--- the places of the nodes but Var and ThyFunc
-abbrev pub others : List ℕ
-others = 0 ∷ 1 ∷ 2 ∷ 3 ∷ 4 ∷ 6 ∷ 7 ∷ 8 ∷ 9 ∷ 10 ∷ 11 ∷ 12 ∷ 13 ∷ 14 ∷ 15 ∷ 16 ∷ 17 ∷ 19 ∷ 20 ∷ 21 ∷ []
-
 module _ (enc : Encoder) where
   behind : {A : Type 0} (x : Res A) (k : A → ℕ → Res Expr) → ((a : A) (q : ℕ) → qualified_in enc (k a q) ≡ false) → qualified_in enc (bind x k) ≡ false
   behind = behind_all (qualified_in enc) (λ j. refl)
 
   module _ (s : List ℕ) (l : ℕ) (expr : Decoder Expr) where
-    unqualified : (n : ExprNode) → OneOf others (tag_of the_type n) → qualified_in enc (expr_of s l expr n) ≡ false
+    unqualified : (n : ExprNode) → ((x : Span) (p : ℕ) → n ≡ expr_node.Var x p → ⊥) → ((f : ThyFunc) (p : ℕ) → n ≡ expr_node.ThyFunc f p → ⊥) → qualified_in enc (expr_of s l expr n) ≡ false
     unfolding expr_of
-    unqualified (expr_node.Numeral lo hi p) k = refl
-    unqualified (expr_node.Boolean b p) k = refl
-    unqualified (expr_node.Real n p) k = refl
-    unqualified (expr_node.String x p) k = refl
-    unqualified (expr_node.BitVec lo hi w p) k = refl
-    unqualified (expr_node.Var x p) k = absurd (miss others 5 tt k)
-    unqualified (expr_node.WKVar p) k = refl
-    unqualified (expr_node.Neg p) k = behind (expr s p) _ (λ e q. refl)
-    unqualified (expr_node.Not p) k = behind (expr s p) _ (λ e q. refl)
-    unqualified (expr_node.BinaryOp o p) k = behind (expr s p) _ (λ a q. behind (expr s q) _ (λ b r. refl))
-    unqualified (expr_node.Atom r p) k = behind (expr s p) _ (λ a q. behind (expr s q) _ (λ b r. refl))
-    unqualified (expr_node.Imp p) k = behind (expr s p) _ (λ a q. behind (expr s q) _ (λ b r. refl))
-    unqualified (expr_node.Iff p) k = behind (expr s p) _ (λ a q. behind (expr s q) _ (λ b r. refl))
-    unqualified (expr_node.And n p) k = behind (many Exprs.none Exprs.more expr n s p) _ (λ es q. refl)
-    unqualified (expr_node.Or n p) k = behind (many Exprs.none Exprs.more expr n s p) _ (λ es q. refl)
-    unqualified (expr_node.IfThenElse p) k = behind (expr s p) _ (λ a q. behind (expr s q) _ (λ b r. behind (expr s r) _ (λ c t. refl)))
-    unqualified (expr_node.Let x p) k = behind (expr s p) _ (λ a q. behind (expr s q) _ (λ b r. refl))
-    unqualified (expr_node.App b p) k =
+    unqualified (expr_node.Numeral lo hi p) v f = refl
+    unqualified (expr_node.Boolean b p) v f = refl
+    unqualified (expr_node.Real n p) v f = refl
+    unqualified (expr_node.String x p) v f = refl
+    unqualified (expr_node.BitVec lo hi w p) v f = refl
+    unqualified (expr_node.Var x p) v f = absurd (v x p refl)
+    unqualified (expr_node.WKVar p) v f = refl
+    unqualified (expr_node.Neg p) v f = behind (expr s p) _ (λ e q. refl)
+    unqualified (expr_node.Not p) v f = behind (expr s p) _ (λ e q. refl)
+    unqualified (expr_node.BinaryOp o p) v f = behind (expr s p) _ (λ a q. behind (expr s q) _ (λ b r. refl))
+    unqualified (expr_node.Atom r p) v f = behind (expr s p) _ (λ a q. behind (expr s q) _ (λ b r. refl))
+    unqualified (expr_node.Imp p) v f = behind (expr s p) _ (λ a q. behind (expr s q) _ (λ b r. refl))
+    unqualified (expr_node.Iff p) v f = behind (expr s p) _ (λ a q. behind (expr s q) _ (λ b r. refl))
+    unqualified (expr_node.And n p) v f = behind (many Exprs.none Exprs.more expr n s p) _ (λ es q. refl)
+    unqualified (expr_node.Or n p) v f = behind (many Exprs.none Exprs.more expr n s p) _ (λ es q. refl)
+    unqualified (expr_node.IfThenElse p) v f = behind (expr s p) _ (λ a q. behind (expr s q) _ (λ b r. behind (expr s r) _ (λ c t. refl)))
+    unqualified (expr_node.Let x p) v f = behind (expr s p) _ (λ a q. behind (expr s q) _ (λ b r. refl))
+    unqualified (expr_node.App b p) v f =
         behind (given l b s p) _ (λ o q. behind (expr s q) _ (λ h r. behind (counted Exprs.none Exprs.more expr s r) _ (λ es t. refl)))
-    unqualified (expr_node.ThyFunc f p) k = absurd (miss others 18 tt k)
-    unqualified (expr_node.IsCtor x p) k = behind (expr s p) _ (λ e q. refl)
-    unqualified (expr_node.Quantifier q n p) k = behind (many [] ◌∷◌ (binder l) n s p) _ (λ bs q. behind (expr s q) _ (λ e r. refl))
-    unqualified expr_node.Refused k = refl
+    unqualified (expr_node.ThyFunc f p) v g = absurd (g f p refl)
+    unqualified (expr_node.IsCtor x p) v f = behind (expr s p) _ (λ e q. refl)
+    unqualified (expr_node.Quantifier q n p) v f = behind (many [] ◌∷◌ (binder l) n s p) _ (λ bs q. behind (expr s q) _ (λ e r. refl))
+    unqualified expr_node.Refused v f = refl
 
   -- what the node tells at every level is told of the expression
   told : (s : List ℕ) (at : ℕ) (n : ExprNode) (t : Bool) → ExprAt s at n → ((l : ℕ) (h : Expr) (p : ℕ) → expr_of s l (dec_expr l) n ≡ got h p → t ≡ is_qualified enc.declares h)
@@ -69,8 +62,9 @@ module _ (enc : Encoder) where
   told s at n t e f zero h p g = got_refuse (sym g)
   told s at n t e f (suc l) h p g = f l h p (sym (e.is l (dec_expr l)) ∙ g)
 
-  pub tells_other : (s : List ℕ) (at : ℕ) (n : ExprNode) → ExprAt s at n → OneOf others (tag_of the_type n) → TellsQualified enc s at false
-  tells_other s at n e k = told s at n false e (λ l h p g. sym (unqualified s l (dec_expr l) n k) ∙ ap (qualified_in enc) g)
+  pub tells_other : (s : List ℕ) (at : ℕ) (n : ExprNode) → ExprAt s at n → ((x : Span) (p : ℕ) → n ≡ expr_node.Var x p → ⊥) → ((f : ThyFunc) (p : ℕ) → n ≡ expr_node.ThyFunc f p → ⊥)
+      → TellsQualified enc s at false
+  tells_other s at n e v f = told s at n false e (λ l h p g. sym (unqualified s l (dec_expr l) n v f) ∙ ap (qualified_in enc) g)
 
   pub tells_func : (s : List ℕ) (at : ℕ) (n : ExprNode) (f : ThyFunc) (p : ℕ) (t : Bool) → ExprAt s at n → n ≡ expr_node.ThyFunc f p → t ≡ needs_sort f
       → TellsQualified enc s at t

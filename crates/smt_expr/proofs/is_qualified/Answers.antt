@@ -9,4 +9,4 @@ pub returns-in-ThyFunc : goal.returns-in-ThyFunc
 returns-in-ThyFunc c = tells_func _ _ _ _ _ _ _ c.read_expr_node-node.ensures c.in-ThyFunc.is c.needs_sort.ensures
 
 pub returns-in_default : goal.returns-in_default
-returns-in_default c = tells_other _ _ _ _ c.read_expr_node-node.ensures c.in_default.in_default-own.keys3
+returns-in_default c = tells_other _ _ _ _ c.read_expr_node-node.ensures c.in_default.not-Var c.in_default.not-ThyFunc
