@@ -1,0 +1,14 @@
+-- `write_own_guards`: behind the binder stands the number of the predicates.
+use Rattle.smt_sort.specs.Section.{encoder_in}
+use Rattle.assertion.specs.Under.{lists}
+use Rattle.assertion.proofs.Guards.{own_unbound, own_uncounted, own_runs}
+use Rattle.assertion.proofs.write_own_guards.Goals as goal
+
+pub returns-in_default : goal.returns-in_default
+returns-in_default c = own_unbound (lists (encoder_in c.args.s.now c.args.enc.now)) _ _ _ _ _ c.check_binder-binder.ensures _ c.in_default.is
+
+pub returns-in_default-number : goal.returns-in_default-number
+returns-in_default-number c = own_uncounted (lists (encoder_in c.args.s.now c.args.enc.now)) _ _ _ _ _ c.check_binder-binder.ensures _ _ c.in-Next.is _ c.number_at-number.ensures c.in_default-number.is
+
+pub returns : goal.returns
+returns c = own_runs (lists (encoder_in c.args.s.now c.args.enc.now)) _ _ _ _ _ c.check_binder-binder.ensures _ _ c.in-Next.is _ c.number_at-number.ensures _ _ c.in-Value.is (λ ps r e. (c.write_kept.ensures ps r e).1)
