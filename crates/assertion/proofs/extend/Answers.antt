@@ -14,10 +14,10 @@ pub keep_binder-vars-requires : goal.keep_binder-vars-requires
 keep_binder-vars-requires c = c.requires
 
 pub slice_bounds-keep_guards-count : goal.slice_bounds-keep_guards-count
-slice_bounds-keep_guards-count c = let z = first_size c.args.text.now c.keep_binder-vars.new.1.1.1.0 c.keep_binder-vars.auto.1.1.1.0 in omega arith
+slice_bounds-keep_guards-count c = let z = first_size c.args.text.now c.keep_binder-vars.new.text c.keep_binder-vars.auto.text in omega arith
 
 pub keep_guards-own-requires : goal.keep_guards-own-requires
 keep_guards-own-requires c = c.requires
 
 pub returns : goal.returns
-returns c = extends c.args.text.now c.keep_binder-vars.new.1.1.1.0 c.keep_binder-vars.auto.1.1.1.0 c.keep_guards-own.new.1.1.1.0 c.keep_guards-own.auto.1.1.1.0 c.args.s.now c.args.enc.now c.args.at c.args.kept _ _ _ c.keep_binder-vars.ensures c.keep_guards-own.ensures.stores c.keep_guards-own.ensures.counts
+returns c = extends c.args.text.now c.keep_binder-vars.new.text c.keep_binder-vars.auto.text c.keep_guards-own.new.text c.keep_guards-own.auto.text c.args.s.now c.args.enc.now c.args.at c.args.kept _ _ _ c.keep_binder-vars.ensures c.keep_guards-own.ensures.stores c.keep_guards-own.ensures.counts

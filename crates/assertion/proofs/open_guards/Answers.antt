@@ -3,8 +3,6 @@ use mathlib.Core.Path.{refl}
 use borrow.Author.Tests.{ne_eqb}
 use Rattle.output.specs.Emit.{emits}
 use Rattle.assertion.specs.Under.{group_text}
-use Rattle.task_check.proofs.Texts.{set_is}
-use Rattle.assertion.proofs.Asserts.{not_set}
 use Rattle.assertion.proofs.open_guards.Goals as goal
 
 pub returns-then-kvar : goal.returns-then-kvar
@@ -17,12 +15,12 @@ returns-then-count-eq0 c = rw (c.if-count-eq0.true, c.if-kvar.false) refl
 
 pub returns-then-not-kvar : goal.returns-then-not-kvar
 unfolding group_text
-returns-then-not-kvar c = rw (ne_eqb c.args.count 0 c.if-count-eq0.false, not_set c.args.kvar c.if-not-kvar.true) c.bytes-then-not-kvar.ensures
+returns-then-not-kvar c = rw (ne_eqb c.args.count 0 c.if-count-eq0.false, c.if-not-kvar.true) c.bytes-then-not-kvar.ensures
 
 pub returns-then-count-eq1 : goal.returns-then-count-eq1
 unfolding group_text emits
-returns-then-count-eq1 c = rw (c.if-count-eq1.true, set_is c.args.kvar c.if-not-kvar.false) refl
+returns-then-count-eq1 c = rw (c.if-count-eq1.true, c.if-not-kvar.false) refl
 
 pub returns : goal.returns
 unfolding group_text
-returns c = rw (ne_eqb c.args.count 0 c.if-count-eq0.false, ne_eqb c.args.count 1 c.if-count-eq1.false, set_is c.args.kvar c.if-not-kvar.false) c.bytes-2.ensures
+returns c = rw (ne_eqb c.args.count 0 c.if-count-eq0.false, ne_eqb c.args.count 1 c.if-count-eq1.false, c.if-not-kvar.false) c.bytes-2.ensures
