@@ -46,7 +46,7 @@ use Rattle.smt_horn.specs.declared.Surveyed.TheVariants as survey_is
 use Rattle.smt_horn.specs.declared.Written.{Written}
 use Rattle.smt_horn.specs.declared.Written.TheVariants as written_is
 use Rattle.smt_horn.specs.declared.Asked.{Asked}
-use Rattle.smt_horn.specs.declared.Asked.TheVariants as Asked-is
+use Rattle.smt_horn.specs.declared.Asked.TheVariants as asked_is
 use Rattle.smt_horn.specs.Calls.{surveyed, written}
 use Rattle.smt_horn.specs.declared.Outcome.{Outcome}
 use Rattle.smt_horn.specs.declared.Outcome.TheVariants as outcome_is
@@ -96,7 +96,7 @@ module _ (p : Progress) (room : ℕ) where
   pub sized_fits : p.len ≤ room → values (p.len ∷ []) ≡ sized p room
   sized_fits h = rw (le-leb p.len room h)
 
-  module _ (asked : Asked) (places first count to : ℕ) (e : asked ≡ Asked-is.Run first count) (i : to ≡ up first count) where
+  module _ (asked : Asked) (places first count to : ℕ) (e : asked ≡ asked_is.Run first count) (i : to ≡ up first count) where
     pub answer_none : p.seen < to → refused 8 ≡ answer_to asked p room places
     answer_none h = rw (e, lt-leb (up first count) p.seen (rw i at h))
 
@@ -247,14 +247,14 @@ module _ (file : List ℕ) (by : Bytes file) (ed : Edition) (t : Task) (end : �
       let n = narrow in
       totals r h ps b ls g (omega arith) (omega arith) (omega arith)
 
-  pub all_put : (b l : List ℕ) → puts (fresh (range_of Asked-is.All) b l) ps ≡ finished (range_of Asked-is.All) (length ps) ps b l
+  pub all_put : (b l : List ℕ) → puts (fresh (range_of asked_is.All) b l) ps ≡ finished (range_of asked_is.All) (length ps) ps b l
   all_put b l =
       let f = few in
-      put_is (range_of Asked-is.All) b l (omega arith) (omega arith) ∙ ap (λ (ts : List (List ℕ)). finished (range_of Asked-is.All) (length ps) ts b l) (take_all (most - 0) ps (omega arith))
+      put_is (range_of asked_is.All) b l (omega arith) (omega arith) ∙ ap (λ (ts : List (List ℕ)). finished (range_of asked_is.All) (length ps) ts b l) (take_all (most - 0) ps (omega arith))
 
   module _ (buf after ls ls' : List ℕ) (p : Progress) where
     -- ALL PARTS
-    module _ (put : Put ed t Asked-is.All buf after ls ls' p) where
+    module _ (put : Put ed t asked_is.All buf after ls ls' p) where
       len_is : p.len ≡ length (join ps)
       len_is = put.len ∙ ap (λ (w : Writing). w.len) (all_put [] [])
 
@@ -264,7 +264,7 @@ module _ (file : List ℕ) (by : Bytes file) (ed : Edition) (t : Task) (end : �
           let e : length (clauses_of t) ≡ h = clauses_number t ∙ i in
           rw (held, put.seen ∙ ap (λ (w : Writing). w.seen) (all_put [] []), len_is, put.longest ∙ ap (λ (w : Writing). w.longest) (all_put [] []), ← e)
 
-      all_done : Answers file ed Asked-is.All buf after ls ls' (sized p (length buf))
+      all_done : Answers file ed asked_is.All buf after ls ls' (sized p (length buf))
       unfolding Answers script_answer script_buffer
       all_done = tests (le_or_lt (length (join ps)) (length buf))
         where
@@ -278,26 +278,26 @@ module _ (file : List ℕ) (by : Bytes file) (ed : Edition) (t : Task) (end : �
               (rw (held, l, lt-leb (length (join ps)) (length buf) g), rw (held, lt-leb (length (join ps)) (length buf) g) (put.kept 9 (rw (lt-leb p.len (length buf) (omega arith)))).0)
 
     -- A RUN
-    module _ (first count : ℕ) (put : Put ed t (Asked-is.Run first count) buf after ls ls' p) where
+    module _ (first count : ℕ) (put : Put ed t (asked_is.Run first count) buf after ls ls' p) where
       abbrev us : List (List ℕ)
       us = take count (drop first ps)
 
       seen_is : p.seen ≡ length ps
-      seen_is = let f = few in put.seen ∙ counted (fresh (range_of (Asked-is.Run first count)) [] []) ps (omega arith) ∙ omega arith
+      seen_is = let f = few in put.seen ∙ counted (fresh (range_of (asked_is.Run first count)) [] []) ps (omega arith) ∙ omega arith
 
       -- what is answered is a refusal, and nothing was written
-      run_kept : (n : ℕ) → answer_to (Asked-is.Run first count) p (length buf) (length ls) ≡ refused n → run_answer (names_of ed) file first count (length buf) (length ls) ≡ refused n
-          → Answers file ed (Asked-is.Run first count) buf after ls ls' (answer_to (Asked-is.Run first count) p (length buf) (length ls))
+      run_kept : (n : ℕ) → answer_to (asked_is.Run first count) p (length buf) (length ls) ≡ refused n → run_answer (names_of ed) file first count (length buf) (length ls) ≡ refused n
+          → Answers file ed (asked_is.Run first count) buf after ls ls' (answer_to (asked_is.Run first count) p (length buf) (length ls))
       unfolding Answers run_buffer run_table
       run_kept n e e' = let k = put.kept n e in (e ∙ sym e', rw e' k.0, rw e' k.1)
 
       -- the parts are there
       module _ (h : first + count ≤ length ps) where
-        run_put : (b l : List ℕ) → puts (fresh (range_of (Asked-is.Run first count)) b l) ps ≡ finished (range_of (Asked-is.Run first count)) (length ps) us b l
+        run_put : (b l : List ℕ) → puts (fresh (range_of (asked_is.Run first count)) b l) ps ≡ finished (range_of (asked_is.Run first count)) (length ps) us b l
         run_put b l =
             let f = few in
             let k : min (first + count) most - first ≡ count = omega arith in
-            put_is (range_of (Asked-is.Run first count)) b l (omega arith) (omega arith) ∙ rw k
+            put_is (range_of (asked_is.Run first count)) b l (omega arith) (omega arith) ∙ rw k
 
         run_len : p.len ≡ length (join us)
         run_len = put.len ∙ ap (λ (w : Writing). w.len) (run_put [] [])
@@ -306,11 +306,11 @@ module _ (file : List ℕ) (by : Bytes file) (ed : Edition) (t : Task) (end : �
         there = let s = seen_is in let f = few in le-leb (up first count) p.seen (omega arith)
 
         run_written : count ≤ length ls → length (join us) ≤ length buf
-            → Answers file ed (Asked-is.Run first count) buf after ls ls' (answer_to (Asked-is.Run first count) p (length buf) (length ls))
+            → Answers file ed (asked_is.Run first count) buf after ls ls' (answer_to (asked_is.Run first count) p (length buf) (length ls))
         unfolding Answers run_answer run_buffer run_table
         run_written c g =
             let l = run_len in
-            let e : answer_to (Asked-is.Run first count) p (length buf) (length ls) ≡ values (p.len ∷ []) = rw (there, le-leb count (length ls) c, le-leb p.len (length buf) (omega arith)) in
+            let e : answer_to (asked_is.Run first count) p (length buf) (length ls) ≡ values (p.len ∷ []) = rw (there, le-leb count (length ls) c, le-leb p.len (length buf) (omega arith)) in
             let w = put.done (p.len ∷ []) e in
             let a : run_of (names_of ed) (got t end) first count (length buf) (length ls) ≡ values (length (join us) ∷ []) = rw (le-leb (first + count) (length ps) h, le-leb count (length ls) c, le-leb (length (join us)) (length buf) g) in
             let n1 = length-take count (drop first ps) in
@@ -322,7 +322,7 @@ module _ (file : List ℕ) (by : Bytes file) (ed : Edition) (t : Task) (end : �
             )
 
         run_unfit : (count ≤ length ls) ⊎ (length ls < count) → (length (join us) ≤ length buf) ⊎ (length buf < length (join us))
-            → Answers file ed (Asked-is.Run first count) buf after ls ls' (answer_to (Asked-is.Run first count) p (length buf) (length ls))
+            → Answers file ed (asked_is.Run first count) buf after ls ls' (answer_to (asked_is.Run first count) p (length buf) (length ls))
         unfolding run_answer
         run_unfit (inl c) (inl g) = run_written c g
         run_unfit (inl c) (inr g) =
@@ -331,7 +331,7 @@ module _ (file : List ℕ) (by : Bytes file) (ed : Edition) (t : Task) (end : �
             (rw (held, le-leb (first + count) (length ps) h, le-leb count (length ls) c, lt-leb (length (join us)) (length buf) g))
         run_unfit (inr c) g = run_kept 9 (rw (there, lt-leb count (length ls) c)) (rw (held, le-leb (first + count) (length ps) h, lt-leb count (length ls) c))
 
-      run_done : (first + count ≤ length ps) ⊎ (length ps < first + count) → Answers file ed (Asked-is.Run first count) buf after ls ls' (answer_to (Asked-is.Run first count) p (length buf) (length ls))
+      run_done : (first + count ≤ length ps) ⊎ (length ps < first + count) → Answers file ed (asked_is.Run first count) buf after ls ls' (answer_to (asked_is.Run first count) p (length buf) (length ls))
       unfolding run_answer
       run_done (inl h) = run_unfit h (le_or_lt count (length ls)) (le_or_lt (length (join us)) (length buf))
       run_done (inr h) =
@@ -342,8 +342,8 @@ module _ (file : List ℕ) (by : Bytes file) (ed : Edition) (t : Task) (end : �
 -- what a call for parts answers: of a file that holds a task
 module _ (file : List ℕ) (by : Bytes file) (ed : Edition) (buf after ls ls' : List ℕ) (h : ℕ) (p : Progress) where
   answered : (asked : Asked) → Given file ed asked buf after ls ls' h p → Answers file ed asked buf after ls ls' (answer_to asked p (length buf) (length ls))
-  answered Asked-is.All a = all_done file by ed a.task a.end a.held buf after ls ls' p a.put
-  answered (Asked-is.Run first count) a =
+  answered asked_is.All a = all_done file by ed a.task a.end a.held buf after ls ls' p a.put
+  answered (asked_is.Run first count) a =
       run_done file by ed a.task a.end a.held buf after ls ls' p first count a.put (le_or_lt (first + count) (length (parts_of (names_of ed) a.task)))
 
   pub answer_given : (asked : Asked) (x : Answer) → x ≡ answer_to asked p (length buf) (length ls) → Given file ed asked buf after ls ls' h p → Answers file ed asked buf after ls ls' x
@@ -352,12 +352,12 @@ module _ (file : List ℕ) (by : Bytes file) (ed : Edition) (buf after ls ls' : 
 -- and of one that is refused
 pub answer_refused : (file : List ℕ) (ed : Edition) (asked : Asked) (buf after ls ls' : List ℕ) (n : ℕ) → (task_of file ≡ refuse n) × (after ≡ buf) × (ls' ≡ ls) → Answers file ed asked buf after ls ls' (refused n)
 unfolding Answers script_answer script_buffer run_answer run_buffer run_table
-answer_refused file ed Asked-is.All buf after ls ls' n e = (rw e.0, rw e.0 e.1)
-answer_refused file ed (Asked-is.Run first count) buf after ls ls' n e = (rw e.0, rw e.0 e.1, rw e.0 e.2)
+answer_refused file ed asked_is.All buf after ls ls' n e = (rw e.0, rw e.0 e.1)
+answer_refused file ed (asked_is.Run first count) buf after ls ls' n e = (rw e.0, rw e.0 e.1, rw e.0 e.2)
 
 -- THE CALLS
 
-pub survey_given : (file : List ℕ) (by : Bytes file) (ed : Edition) (buf after ls ls' : List ℕ) (h : ℕ) (p : Progress) → Given file ed Asked-is.All buf after ls ls' h p
+pub survey_given : (file : List ℕ) (by : Bytes file) (ed : Edition) (buf after ls ls' : List ℕ) (h : ℕ) (p : Progress) → Given file ed asked_is.All buf after ls ls' h p
     → surveyed (survey_is.Sizes p.seen h p.len p.longest) ≡ survey_answer (names_of ed) file
 survey_given file by ed buf after ls ls' h p a = survey_found file by ed a.task a.end a.held buf after ls ls' p a.put h a.heads
 
@@ -366,13 +366,13 @@ unfolding survey_answer
 survey_refused file ed n e = rw e
 
 module _ (file : List ℕ) (ed : Edition) (buf after ls ls' : List ℕ) (x : Answer) where
-  pub run_answers : (first count : ℕ) → Answers file ed (Asked-is.Run first count) buf after ls ls' x
+  pub run_answers : (first count : ℕ) → Answers file ed (asked_is.Run first count) buf after ls ls' x
       → (x ≡ run_answer (names_of ed) file first count (length buf) (length ls)) × (after ≡ run_buffer (names_of ed) file first count buf ls) × (ls' ≡ run_table (names_of ed) file first count buf ls)
   unfolding Answers
   run_answers first count u = u
 
   -- what the buffer of script then holds carries demand 3
-  pub script_answers : Answers file ed Asked-is.All buf after ls ls' x
+  pub script_answers : Answers file ed asked_is.All buf after ls ls' x
       → ((x ≡ script_answer (names_of ed) file (length buf)) × (after ≡ script_buffer (names_of ed) file buf)) × Promised (names_of ed) file buf after
   unfolding Answers
   script_answers u = (u, rw u.1 (demand3 (names_of ed) (tables.editions ed) file buf))
