@@ -15,9 +15,11 @@ ghost use Rattle.console.specs.Turns.{fitting as fitting_of, Fills, Begun, Short
 
 use flatten::Range;
 use inspect::Inspected;
-use libc::STDOUT_FILENO;
 use smt_text::Edition;
 use trailer::Bounds;
+
+// Standard output.
+const STDOUT_FILENO: i32 = 1;
 
 // What a turn put into the buffer: the number of the part behind it, and how many bytes.
 #[derive(Clone, Copy)]

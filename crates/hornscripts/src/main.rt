@@ -4,10 +4,12 @@
 
 ghost use Rattle.std.specs.Prelude.{◌≤◌};
 
-use libc::STDOUT_FILENO;
 use smt_horn::Surveyed;
 use smt_text::Edition;
 use task::Number;
+
+// Standard output.
+const STDOUT_FILENO: i32 = 1;
 
 fn main() {
     let mut left: usize = 4096;

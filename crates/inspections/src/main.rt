@@ -5,9 +5,11 @@
 ghost use Rattle.std.specs.Prelude.{◌≤◌};
 
 use inspect::Inspected;
-use libc::STDOUT_FILENO;
 use task::Number;
 use trailer::Bounds;
+
+// Standard output.
+const STDOUT_FILENO: i32 = 1;
 
 fn main() {
     let mut left: usize = 4096;

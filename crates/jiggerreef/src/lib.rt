@@ -1,4 +1,4 @@
-// The archive: `survey`, `part`, `run` and `script` for C and Rust. A call answers 0 and stores its values, or it answers the number of its refusal
+// `survey`, `part`, `run` and `script` as the archive has them: jiggerreef_c exports these functions to C and Rust. A call answers 0 and stores its values, or it answers the number of its refusal
 // and stores nothing. They ask nothing of the bytes, the edition's number, an index, a count or the length of a buffer or a table.
 #![tactic(auto)]
 
@@ -24,8 +24,7 @@ fn edition_of(number: u8) -> Edition
 
 // Stores the numbers of parts and of assertions, the length of the script and that of its longest part; or answers the number of the
 // refusal.
-#[unsafe(no_mangle)]
-pub extern "C" fn jiggerreef_survey(file: &[u8], edition: u8, sizes: &mut [usize; 4]) -> u8
+pub fn jiggerreef_survey(file: &[u8], edition: u8, sizes: &mut [usize; 4]) -> u8
     ensures { (result ≡ number (survey_answer (names_of (edition_of edition)) file.now)) × (sizes.new ≡ stored (survey_answer (names_of (edition_of edition)) file.now) sizes.old) }
 {
     let surveyed = smt_horn::survey(file, edition_of(edition));
@@ -53,14 +52,7 @@ fn store_length(written: Written, len: &mut usize) -> u8
 
 // Writes part i to the buffer's start and stores its length; or answers survey's refusal, then 8 if there is no such part, then 9 if it is
 // longer than the buffer.
-#[unsafe(no_mangle)]
-pub extern "C" fn jiggerreef_part(
-    file: &[u8],
-    buf: &mut [u8],
-    edition: u8,
-    i: usize,
-    len: &mut usize,
-) -> u8
+pub fn jiggerreef_part(file: &[u8], buf: &mut [u8], edition: u8, i: usize, len: &mut usize) -> u8
     ensures { (result ≡ number (part_answer (names_of (edition_of edition)) file.now i (length buf.old))) × (len.new ∷ [] ≡ stored (part_answer (names_of (edition_of edition)) file.now i (length buf.old)) (len.old ∷ [])) × (buf.new ≡ part_buffer (names_of (edition_of edition)) file.now i buf.old) }
 {
     let written = smt_horn::part(file, edition_of(edition), i, buf);
@@ -70,8 +62,7 @@ pub extern "C" fn jiggerreef_part(
 // Writes `count` parts from number `first` on, joined, to the buffer's start, the length of each to the table's start, and stores the joined
 // length; or answers survey's refusal, then 8 if there are not as many parts, then 9 if they are longer than the buffer or the table has fewer
 // places.
-#[unsafe(no_mangle)]
-pub extern "C" fn jiggerreef_run(
+pub fn jiggerreef_run(
     file: &[u8],
     buf: &mut [u8],
     lengths: &mut [u32],
@@ -88,8 +79,7 @@ pub extern "C" fn jiggerreef_run(
 
 // Writes the script to the buffer's start and stores its length; or answers survey's refusal, then 9 if it is longer than the buffer. What
 // the buffer then holds carries demand 3.
-#[unsafe(no_mangle)]
-pub extern "C" fn jiggerreef_script(file: &[u8], buf: &mut [u8], edition: u8, len: &mut usize) -> u8
+pub fn jiggerreef_script(file: &[u8], buf: &mut [u8], edition: u8, len: &mut usize) -> u8
     ensures value { (result ≡ number (script_answer (names_of (edition_of edition)) file.now (length buf.old))) × (len.new ∷ [] ≡ stored (script_answer (names_of (edition_of edition)) file.now (length buf.old)) (len.old ∷ [])) × (buf.new ≡ script_buffer (names_of (edition_of edition)) file.now buf.old) }
     ensures promised { Promised (names_of (edition_of edition)) file.now buf.old buf.new }
 {

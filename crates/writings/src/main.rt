@@ -7,11 +7,13 @@ ghost use Rattle.std.specs.Prelude.{◌≤◌, length};
 ghost use Rattle.names.specs.Table.{Chained};
 
 use item_check::Section;
-use libc::STDOUT_FILENO;
 use output::Out;
 use smt_text::Edition;
 use smt_word::Sent;
 use task::Number;
+
+// Standard output.
+const STDOUT_FILENO: i32 = 1;
 
 fn main() {
     let mut left: usize = 4096;
