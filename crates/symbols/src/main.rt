@@ -8,7 +8,6 @@ ghost use Rattle.std.specs.Prelude.{◌≡◌, ◌<◌, length};
 // Standard output.
 const STDOUT_FILENO: i32 = 1;
 
-
 fn main() {
     let mut input = io::buffer();
     let n = io::read_full(0, &mut input);

@@ -1,0 +1,11 @@
+-- `fitting`: each turn takes one length more, or ends.
+use Prim.Native.Nat.{◌-◌}
+use lib.ListN.{length}
+use Rattle.console.proofs.Filling.{Fitting}
+use Rattle.console.proofs.fitting.Given as goal
+
+abbrev pub invariant-loop-i : goal.invariant-loop-i
+invariant-loop-i l = Fitting l.room l.lengths l.left l.i
+
+abbrev pub decreases-loop-i : goal.decreases-loop-i
+decreases-loop-i l = length l.lengths - l.i
