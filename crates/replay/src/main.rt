@@ -7,13 +7,18 @@
 // these ends.
 #![tactic(auto)]
 
-ghost use Rattle.std.specs.Prelude.{◌<◌};
+ghost use Rattle.std.specs.Prelude.{◌≡◌, ◌<◌, length};
 ghost use Rattle.io.specs.Counts.{IsPrefixLen};
 
-use libc::STDOUT_FILENO;
 use output::Out;
 use smt_horn::{Surveyed, Written};
 use smt_text::Edition;
+use std::fs;
+use std::fs::File;
+use std::io::Read;
+
+// Standard output.
+const STDOUT_FILENO: i32 = 1;
 
 // What every byte of a buffer is before a call.
 const FILLED: u8 = 165;
@@ -33,49 +38,66 @@ struct Joined {
     good: bool,
 }
 
-fn main() {
-    let mut buf = [FILLED; 1048576];
-    replay_all(&mut buf);
+fn main(rt: HostRuntime) -> std::io::Result<()> {
+    let mut buf = filled_buffer();
+    replay_all(&rt, &mut buf)
+}
+
+// 1,048,576 bytes that are filled: the buffer of every call.
+fn filled_buffer() -> [u8; 1048576]
+    ensures { 1048576 ≡ length result }
+{
+    [FILLED; 1048576]
 }
 
 // Replays the file of each argument.
-fn replay_all(buf: &mut [u8]) {
-    let n = os::arg_count();
-    let mut i: usize = 1;
-    while i < n {
-        replay(i, buf);
-        i += 1;
+fn replay_all(rt: &HostRuntime, buf: &mut [u8]) -> std::io::Result<()> {
+    for name in std::env::args(rt)?.skip(1) {
+        replay_named(rt, name.as_str(), buf);
     }
+    Ok(())
 }
 
 // Replays the file that an argument names.
-fn replay(i: usize, buf: &mut [u8]) {
-    let mut name = io::buffer();
-    let n = os::arg(i, &mut name);
-    replay_named(&name[..n], buf);
-}
-
-fn replay_named(name: &[u8], buf: &mut [u8]) {
+fn replay_named(rt: &HostRuntime, name: &str, buf: &mut [u8]) {
     let mut file = io::large_buffer();
-    let n = read_file(name, b".task", &mut file);
+    let n = read_file(rt, name, b".task", &mut file);
     let mut recorded = io::buffer();
-    let m = read_file(name, b".answer", &mut recorded);
-    io::write_all(STDOUT_FILENO, name);
+    let m = read_file(rt, name, b".answer", &mut recorded);
+    io::write_all(STDOUT_FILENO, name.as_bytes());
     print_outcome(&file[..n], &recorded[..m], buf);
 }
 
-// Reads the file of that name and ending as far as there is room.
-fn read_file(name: &[u8], ending: &[u8], buf: &mut [u8]) -> usize
+// Reads the file of that name and ending as far as there is room; none of it where it cannot be opened.
+fn read_file(rt: &HostRuntime, name: &str, ending: &[u8], buf: &mut [u8]) -> usize
     ensures { IsPrefixLen result buf.new }
 {
     let mut path = io::buffer();
-    let named = Out::new().bytes(&mut path, name);
+    let named = Out::new().bytes(&mut path, name.as_bytes());
     let ended = named.bytes(&mut path, ending);
     let n = output::least(ended.len, 4096);
-    let fd = os::open_read(&path[..n]);
-    let got = io::read_full(fd, buf);
-    libc::close(fd);
-    got
+    let Ok(text) = std::str::from_utf8(&path[..n]) else {
+        return 0;
+    };
+    match fs::open(rt, text) {
+        Ok(mut file) => read_full(&mut file, buf),
+        Err(_) => 0,
+    }
+}
+
+// Reads until the buffer is full, the file ends or a read fails, and answers how many bytes it put at the buffer's start.
+fn read_full(file: &mut File, buf: &mut [u8]) -> usize
+    ensures { IsPrefixLen result buf.new }
+{
+    let mut done: usize = 0;
+    while done < buf.len() {
+        match file.read(&mut buf[done..]) {
+            Ok(0) => return done,
+            Ok(n) => done += n,
+            Err(_) => return done,
+        }
+    }
+    done
 }
 
 // Compares what is answered with what was recorded.
