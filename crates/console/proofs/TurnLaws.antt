@@ -1,4 +1,4 @@
--- What is proved of turns: `turn-laws`.
+-- What is proved of turns: `turn_laws`.
 use Prim.Native.Nat.{ℕ, zero, suc, ◌+◌, ◌-◌, ◌≤◌, ◌<◌}
 use mathlib.Core.Path.{◌≡◌, refl, sym, ap, ◌∙◌}
 use mathlib.Core.Logic.{⊎_elim}

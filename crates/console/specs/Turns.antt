@@ -28,7 +28,7 @@ abbrev pub turns : ℕ → ℕ → ℕ → List (List ℕ) → List (List ℕ)
 turns zero room places ts = []
 turns (suc n) room places ts = join (turn_of room places ts) ∷ turns n room places (drop (length (turn_of room places ts)) ts)
 
--- what is proved of them (proofs/TurnLaws.antt: turn-laws)
+-- what is proved of them (proofs/TurnLaws.antt: turn_laws)
 pub record TurnLaws : Type 0 where
   -- a turn has room for its parts
   pub fits : (room places : ℕ) (ts : List (List ℕ)) → length (join (turn_of room places ts)) ≤ room

@@ -1,4 +1,4 @@
--- What a KVar adds to a table: a name that is not there yet, and the number of its sorts. What KVars in a row add: `all-added`.
+-- What a KVar adds to a table: a name that is not there yet, and the number of its sorts. What KVars in a row add: `all_added`.
 use mathlib.Core.Path.{◌≡◌, refl, sym, ap, ◌∙◌}
 use mathlib.Core.Bool.{Bool, true, false, cond, ◌||◌}
 use mathlib.Core.List.{List, [], ◌∷◌, ◌++◌, append-nil, append_assoc}

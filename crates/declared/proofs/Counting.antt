@@ -1,4 +1,4 @@
--- At least three bytes belong to each name that a task declares: `symbols-few`, `kvars-few`. So a table with as many words for entries as the
+-- At least three bytes belong to each name that a task declares: `symbols_few`, `kvars_few`. So a table with as many words for entries as the
 -- file has bytes has room for all.
 use mathlib.Core.Path.{◌≡◌, sym, ap, ◌∙◌}
 use mathlib.Core.Bool.{Bool, true, false, cond}

@@ -69,7 +69,7 @@ sample = record {
   constraint = Constraint.conj Constraints.none;
 }
 
--- Each name has its own kind. (proofs/Whole.antt: sample-symbols)
+-- Each name has its own kind. (proofs/Whole.antt: sample_symbols)
 abbrev pub SampleSymbols : Type 0
 SampleSymbols =
     symbols_of sample

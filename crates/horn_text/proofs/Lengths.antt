@@ -1,4 +1,4 @@
--- With a valid table of names the script of a file of bytes is shorter than 2^40 bytes, and its longest part shorter than 2^32: `script-short`. An
+-- With a valid table of names the script of a file of bytes is shorter than 2^40 bytes, and its longest part shorter than 2^32: `script_short`. An
 -- item takes at most 500000 bytes of text for each byte it is decoded from. There are no more assertions than bytes, and an assertion is at most
 -- 8000000 bytes long.
 use Prim.Native.Nat.{ℕ, zero, suc, ◌+◌, ◌-◌, ◌*◌, ◌^◌, ◌≤◌, ◌<◌}

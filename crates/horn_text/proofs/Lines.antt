@@ -1,4 +1,4 @@
--- Every part ends in a line feed: `parts-lined`. So there are no more parts than bytes: `parts-few`.
+-- Every part ends in a line feed: `parts_lined`. So there are no more parts than bytes: `parts_few`.
 use Prim.Native.Nat.{ℕ, zero, suc, ◌≤◌, ◌<◌}
 use Prim.Native.Char.{code}
 use mathlib.Core.Path.{◌≡◌, refl, ap}

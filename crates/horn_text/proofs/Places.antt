@@ -1,4 +1,4 @@
--- The clauses of a task are those of its heads: `clauses-placed`; and how many clauses and parts there are.
+-- The clauses of a task are those of its heads: `clauses_placed`; and how many clauses and parts there are.
 use mathlib.Core.Path.{◌≡◌, refl, ap, ◌∙◌}
 use mathlib.Core.Bool.{Bool, true, false, cond}
 use mathlib.Core.List.{List, [], ◌∷◌, ◌++◌, map, append-nil, append_assoc, map-append}

@@ -1,5 +1,5 @@
--- The script is read as the commands that the task calls for: `script-read`; which assertions are among the first commands; and how many among
--- all: `assertions-number`.
+-- The script is read as the commands that the task calls for: `script_read`; which assertions are among the first commands; and how many among
+-- all: `assertions_number`.
 use Prim.Native.Nat.{ℕ, zero, suc, ◌+◌, ◌-◌}
 use mathlib.Core.Path.{◌≡◌, refl, sym, ap, ◌∙◌}
 use mathlib.Core.Bool.{Bool, true, false, cond}

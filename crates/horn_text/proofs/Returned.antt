@@ -1,4 +1,4 @@
--- For a task without fault the source's writer returns: `script-returns`.
+-- For a task without fault the source's writer returns: `script_returns`.
 use mathlib.Core.Path.{◌≡◌, refl}
 use mathlib.Core.Bool.{false}
 use mathlib.Core.List.{List, [], ◌∷◌, map}

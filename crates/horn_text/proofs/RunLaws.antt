@@ -1,4 +1,4 @@
--- W-204, what is proved of a run of parts: `run-laws`.
+-- W-204, what is proved of a run of parts: `run_laws`.
 use Prim.Native.Nat.{ℕ, zero, suc, ◌+◌, ◌^◌, ◌≤◌, ◌<◌}
 use mathlib.Core.Path.{◌≡◌, refl, sym, ap, ◌∙◌}
 use mathlib.Core.Bool.{Bool, true, false, cond}

@@ -1,4 +1,4 @@
--- Where the source's writer returns, for a whole task: `smt_horn.rs`, function by function under the source's names with `-` for `_`. The file has
+-- Where the source's writer returns, for a whole task: `smt_horn.rs`, function by function under the source's names. The file has
 -- no `assert!`, `panic!` or `unwrap` of its own, so it does not return where a function of `smt_fmt.rs` that it calls does not.
 use Rattle.std.specs.Prelude.{Bool, ◌&&◌, List}
 use Rattle.task.specs.Ast.{DataDecl, Task}

@@ -1,4 +1,4 @@
--- W-204, a run of parts in one call: what single calls give, and what is proved of a run. (proofs/RunLaws.antt: run-laws)
+-- W-204, a run of parts in one call: what single calls give, and what is proved of a run. (proofs/RunLaws.antt: run_laws)
 use Rattle.std.specs.Prelude.{ℕ, zero, suc, ◌+◌, ◌^◌, ◌≤◌, ◌<◌, ◌≡◌, ◌↔◌, ◌⊎◌, List, [], ◌∷◌, ◌++◌, map, length, take, drop, set, get_or}
 use Rattle.task.specs.Ast.{Task}
 use Rattle.task.specs.Decode.{got}

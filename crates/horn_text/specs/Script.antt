@@ -1,4 +1,4 @@
--- What is written: `smt_horn.rs`, function by function under the source's names with `-` for `_`, and the parts of the script.
+-- What is written: `smt_horn.rs`, function by function under the source's names, and the parts of the script.
 use Rattle.std.specs.Prelude.{ℕ, max, List, [], ◌∷◌, ◌++◌, map, length}
 use Rattle.smtlib.specs.Lexicon.{bytes}
 use Rattle.smtlib.specs.Compose.{paren, line}

@@ -1,4 +1,4 @@
--- In an accepted task no name free in a predicate of a ForAll is the binder of a ForAll inside that one: `no-captures`.
+-- In an accepted task no name free in a predicate of a ForAll is the binder of a ForAll inside that one: `no_captures`.
 use Prim.Native.Nat.{ℕ}
 use mathlib.Core.Path.{◌≡◌, refl, sym, ap, ◌∙◌}
 use mathlib.Core.Bool.{Bool, true, false, not, ◌||◌}

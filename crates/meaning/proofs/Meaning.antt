@@ -1,4 +1,4 @@
--- The tree and the assertions mean the same: `flattening`; and the assertions are those of the script: `script-meaning`.
+-- The tree and the assertions mean the same: `flattening`; and the assertions are those of the script: `script_meaning`.
 use Prim.Native.Nat.{ℕ}
 use mathlib.Core.Path.{◌≡◌, refl, sym, ap, ◌∙◌, subst, fun_ext}
 use mathlib.Core.Bool.{Bool, true, false, cond, not, ◌&&◌, and-true, and_assoc}

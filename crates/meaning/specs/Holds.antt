@@ -1,4 +1,4 @@
--- W-208. When a tree holds, and when an assertion does. Of the writer only `write-sort` with its encoder is needed.
+-- W-208. When a tree holds, and when an assertion does. Of the writer only `write_sort` with its encoder is needed.
 use Rattle.std.specs.Prelude.{Bool, true, false, not, ◌&&◌, ◌||◌, List, [], ◌∷◌}
 use Rattle.task.specs.Ast.{Binder, Pred, Constraint, Constraints}
 use Rattle.task.specs.Returns.{every}

@@ -21,7 +21,7 @@ pub record KeepsMeaning (names : NameTable) (t : Task) (buf : List ℕ) : Type 1
   -- and the tree means the same as the clauses.
   pub meaning : SameMeaning names t
 
--- For every accepted file what `script` leaves in a buffer with room is such. (proofs/Meaning.antt: script-meaning)
+-- For every accepted file what `script` leaves in a buffer with room is such. (proofs/Meaning.antt: script_meaning)
 abbrev pub ScriptMeaning : Type 1
 ScriptMeaning =
     (names : NameTable) → Valid names → (file buf : List ℕ) (t : Task) (end : ℕ) → task_of file ≡ got t end

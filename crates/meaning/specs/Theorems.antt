@@ -30,7 +30,7 @@ unfoldable mutual
   AllUncaptured Constraints.none = Unit
   AllUncaptured (Constraints.more c cs) = Uncaptured c × AllUncaptured cs
 
--- So it is in every accepted task, by refusals 7, 15 and 10. (proofs/Captures.antt: no-captures)
+-- So it is in every accepted task, by refusals 7, 15 and 10. (proofs/Captures.antt: no_captures)
 abbrev pub NoCaptures : Type 0
 NoCaptures = (file : List ℕ) (t : Task) (end : ℕ) → task_of file ≡ got t end → Uncaptured t.constraint
 
@@ -42,7 +42,7 @@ SameMeaning names t =
     (Value : Type 0) (i : Interpretation Value) → Lawful i → (a : Assignment Value)
     → tree_holds i (encoder_of names t) t.constraint a ≡ assertions_hold i (encoder_of names t) (clauses_of t) a
 
--- So it is in every task in which nothing is captured, whatever else is at fault in it. (proofs/Meaning.antt: uncaptured-meaning)
+-- So it is in every task in which nothing is captured, whatever else is at fault in it. (proofs/Meaning.antt: uncaptured_meaning)
 abbrev pub UncapturedMeaning : Type 1
 UncapturedMeaning = (names : NameTable) (t : Task) → Uncaptured t.constraint → SameMeaning names t
 

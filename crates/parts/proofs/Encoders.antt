@@ -1,4 +1,4 @@
--- A table of the names that a task declares is the encoder of the task: `encoder-is`.
+-- A table of the names that a task declares is the encoder of the task: `encoder_is`.
 use mathlib.Core.Path.{◌≡◌, ap, ◌∙◌}
 use mathlib.Core.Bool.{true, false}
 use Rattle.task.specs.Scope.{declared_by}

@@ -79,7 +79,7 @@ fresh r buf lengths = record { range = r; seen = 0; len = 0; longest = 0; buf = 
 abbrev pub names_in : List ℕ → NameTable
 names_in enc = names_of (edition_in enc)
 
--- A table of the names that a task declares is the encoder of the task. (proofs/Encoders.antt: encoder-is)
+-- A table of the names that a task declares is the encoder of the task. (proofs/Encoders.antt: encoder_is)
 abbrev pub EncoderIs : Type 0
 EncoderIs = (file enc : List ℕ) (t : Task) → entries file enc ≡ symbols_of t → encoder_in file enc ≡ encoder_of (names_in enc) t
 

@@ -1,4 +1,4 @@
--- The texts of the theory functions and of strings, and the valid tables: `thy-func-texts`, `string-texts` and `tables`.
+-- The texts of the theory functions and of strings, and the valid tables: `thy_func_texts`, `string_texts` and `tables`.
 use mathlib.Core.Path.{◌≡◌, refl, sym, ap, ◌∙◌}
 use mathlib.Core.Bool.{Bool, true, false, cond, ◌||◌}
 use mathlib.Core.List.{List, [], ◌∷◌, ◌++◌, append-nil, append_assoc}

@@ -46,7 +46,7 @@ texts_from names c (suc n) = text_of names (coded thy_funcs (c ∷ 24 ∷ []) 0)
 abbrev pub qualified : ThyFunc → Sort → Expr
 qualified f b = Expr.app (Expr.thy_func f) Exprs.none (some b)
 
--- With the table of Z3 what is written for the theory functions is what the source writes. (proofs/Texts.antt: thy-func-texts)
+-- With the table of Z3 what is written for the theory functions is what the source writes. (proofs/Texts.antt: thy_func_texts)
 pub record ThyFuncTexts : Type 0 where
   -- each code's
   pub texts : texts_from (names_of Z3) 0 48 ≡ map bytes source_texts
@@ -82,7 +82,7 @@ pub record Tables : Type 0 where
 abbrev pub is_quote : ℕ → Bool
 is_quote b = eqb b (code "\"")
 
--- What is written for strings. The first two fix it for each. (proofs/Texts.antt: string-texts)
+-- What is written for strings. The first two fix it for each. (proofs/Texts.antt: string_texts)
 pub record StringTexts : Type 0 where
   -- without a quotation mark: as the source writes every string
   pub plain : (t : List ℕ) → any is_quote t ≡ false → write_string t ≡ quotes t

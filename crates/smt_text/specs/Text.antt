@@ -1,6 +1,6 @@
--- What is written: `smt_fmt.rs` with `SmtOptions::HORN`, function by function under the source's names with `-` for `_`, and
--- `write_kvar_decl` of `smt_horn.rs`. Strings depart from it (`write-string`), and so do the set functions in every table of names but that of
--- Z3 (`write-identifier`). Where the source panics no task is accepted; a definition gives a text there too, since it gives one for every tree.
+-- What is written: `smt_fmt.rs` with `SmtOptions::HORN`, function by function under the source's names, and
+-- `write_kvar_decl` of `smt_horn.rs`. Strings depart from it (`write_string`), and so do the set functions in every table of names but that of
+-- Z3 (`write_identifier`). Where the source panics no task is accepted; a definition gives a text there too, since it gives one for every tree.
 use Rattle.std.specs.Prelude.{ℕ, zero, suc, Bool, true, false, cond, List, [], ◌∷◌, ◌++◌, eqb}
 use Prim.Native.Char.{code}
 use Rattle.std.proofs.Math.Option.{Option, none, some}

@@ -1,4 +1,4 @@
--- The parts of a writer's text: `composition` and `string-spells`.
+-- The parts of a writer's text: `composition` and `string_spells`.
 use mathlib.Core.Path.{◌≡◌, refl, ap, subst}
 use mathlib.Core.List.{List, [], ◌∷◌, ◌++◌, append_assoc, append-nil}
 use Prim.Native.Nat.{ℕ}

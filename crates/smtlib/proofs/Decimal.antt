@@ -1,5 +1,5 @@
--- The decimal of a number is a numeral, `decimal-spells`, and means that number, `decimal-means`; as many digits as the number has are enough
--- for it, `decimal-digits`.
+-- The decimal of a number is a numeral, `decimal_spells`, and means that number, `decimal_means`; as many digits as the number has are enough
+-- for it, `decimal_digits`.
 use mathlib.Core.Path.{◌≡◌, refl, sym, ap, ◌∙◌}
 use mathlib.Core.Bool.{Bool, true, false}
 use mathlib.Core.List.{List, [], ◌∷◌, ◌++◌}

@@ -1,4 +1,4 @@
--- A word is of at most one kind: `kind-of`.
+-- A word is of at most one kind: `kind_of_lem`.
 use mathlib.Core.Path.{◌≡◌, refl, sym, ap, ◌∙◌, subst}
 use mathlib.Core.Bool.{Bool, true, false, not, cond, ◌&&◌}
 use mathlib.Core.Option.{Option, none, some}

@@ -1,4 +1,4 @@
--- A reader that computes: `read` gives the commands of a text if it has a reading (`read-complete`), and only then (`read-sound`).
+-- A reader that computes: `read` gives the commands of a text if it has a reading (`read_complete`), and only then (`read_sound`).
 use mathlib.Core.Path.{◌≡◌, refl, sym, ap, ◌∙◌, subst}
 use mathlib.Core.Bool.{Bool, true, false, cond}
 use mathlib.Core.Option.{Option, none, some, none-ne-some}

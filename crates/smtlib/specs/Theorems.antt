@@ -60,18 +60,18 @@ pub record Composition : Type 0 where
   -- A text that writes commands is read as them.
   pub written_read : {w : List ℕ} {cs : List Command} → Writes w cs → Reading w cs
 
--- A string of printable bytes is written with each `"` twice, in quotation marks. (proofs/Compose.antt: string-spells)
+-- A string of printable bytes is written with each `"` twice, in quotation marks. (proofs/Compose.antt: string_spells)
 abbrev pub StringSpells : Type 0
 StringSpells = (s : List ℕ) → T (all visible s) → Spells (quotes (doubled s)) (string s)
 
--- The decimal of a number is a numeral. (proofs/Decimal.antt: decimal-spells)
+-- The decimal of a number is a numeral. (proofs/Decimal.antt: decimal_spells)
 abbrev pub DecimalSpells : Type 0
 DecimalSpells = (n : ℕ) → Spells (decimal n) (word numeral (decimal n))
 
--- For a number of at most f + 1 digits, f + 1 places are enough. (proofs/Decimal.antt: decimal-digits)
+-- For a number of at most f + 1 digits, f + 1 places are enough. (proofs/Decimal.antt: decimal_digits)
 abbrev pub DecimalDigits : Type 0
 DecimalDigits = (f n : ℕ) → n < 10 ^ suc f → decimal n ≡ digits (suc f) n
 
--- The decimal of a number means that number: its digits, read back, give it. (proofs/Decimal.antt: decimal-means)
+-- The decimal of a number means that number: its digits, read back, give it. (proofs/Decimal.antt: decimal_means)
 abbrev pub DecimalMeans : Type 0
 DecimalMeans = (n : ℕ) → value 0 (decimal n) ≡ n

@@ -1,4 +1,4 @@
--- Which texts are at fault: `text-faults`.
+-- Which texts are at fault: `text_faults`.
 use mathlib.Core.Path.{◌≡◌, refl, ap, ◌∙◌}
 use mathlib.Core.Bool.{Bool, true, false, ◌&&◌}
 use Rattle.smtlib.specs.Lexicon.{visible, all}

@@ -240,6 +240,6 @@ unfoldable pub items : {A : Type 0} → ℕ → Decoder A → Decoder (List A)
 items zero d s at = got [] at
 items (suc n) d s at = cond (leb (length s) at) (got [] at) ((d ▹ λ a. items n d ▹ λ b. give (a ∷ b)) s at)
 
--- Each item takes a byte at least, so as many as there are bytes are enough: the walk ends at the section's end (`section-walks`).
+-- Each item takes a byte at least, so as many as there are bytes are enough: the walk ends at the section's end (`section_walks`).
 abbrev pub section : {A : Type 0} → Decoder A → Decoder (List A)
 section d s = items (length s) d s

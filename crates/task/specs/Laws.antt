@@ -13,7 +13,7 @@ abbrev pub faults_from : ℕ → ℕ → List Fault
 faults_from b zero = []
 faults_from b (suc n) = text_fault (b ∷ []) ∷ faults_from (suc b) n
 
--- Which comments and strings are at fault, said without the test of a byte. It is fixed so for all that are made of bytes. (proofs/Texts.antt: text-faults)
+-- Which comments and strings are at fault, said without the test of a byte. It is fixed so for all that are made of bytes. (proofs/Texts.antt: text_faults)
 pub record TextFaults : Type 0 where
   -- of one byte: with 0 to 31 they are, with 32 to 126 not, with 127 to 255 they are
   pub alone : faults_from 0 256 ≡ replicate 32 Text ++ (replicate 95 Sound ++ replicate 129 Text)

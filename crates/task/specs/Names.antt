@@ -155,11 +155,11 @@ pub record Known (t : Task) : Type 0 where
 abbrev pub Counted : Task → Type 0
 Counted t = EachPred (PredCounted t) (in_constraint t) t.constraint
 
--- Names are judged behind pieces: where a piece is at fault its number is answered, and else that of the names. (proofs/Scoping.antt: judged-last)
+-- Names are judged behind pieces: where a piece is at fault its number is answered, and else that of the names. (proofs/Scoping.antt: judged_last)
 abbrev pub JudgedLast : Type 0
 JudgedLast = (t : Task) (end : ℕ) → judged t end ≡ bind (judged_by task_fault t end) (judged_by names_fault)
 
--- 15, 10 and 11 are the faults in this order, each exactly where its rule does not hold. (proofs/Naming.antt: name-rules)
+-- 15, 10 and 11 are the faults in this order, each exactly where its rule does not hold. (proofs/Naming.antt: name_rules)
 pub record NameRules (t : Task) : Type 0 where
   pub clash : (Apart t → ⊥) → names_fault t ≡ Clash
   pub unknown : Apart t → (Known t → ⊥) → names_fault t ≡ Unknown
@@ -172,10 +172,10 @@ pub record NamesHold (t : Task) : Type 0 where
   pub known : Known t
   pub counted : Counted t
 
--- where the fold finds no fault it does (proofs/Naming.antt: names-hold)
+-- where the fold finds no fault it does (proofs/Naming.antt: names_hold)
 abbrev pub SoundNames : Type 0
 SoundNames = (t : Task) → names_fault t ≡ Sound → NamesHold t
 
--- and so it is in every task that a file holds (proofs/Scoping.antt: held-names)
+-- and so it is in every task that a file holds (proofs/Scoping.antt: held_names)
 abbrev pub HeldNames : Type 0
 HeldNames = (file : List ℕ) (t : Task) (end : ℕ) → task_of file ≡ got t end → NamesHold t
