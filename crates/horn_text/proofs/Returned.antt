@@ -8,7 +8,7 @@ use Rattle.smtlib.specs.Lexicon.{bytes}
 use Rattle.smtlib.proofs.Bools.{both}
 use Rattle.task.specs.declared.Fault.TheVariants.{Sound}
 use Rattle.task.specs.Ast.{Sort, Sorts, Binder, Expr, Pred, Constraint, Constraints, DataDecl, FunDef, KVarDecl, Task}
-use Rattle.task.specs.Fault.{each, binder_fault, pred_fault, datatype_fault, function_fault, kvar_fault, task_fault}
+use Rattle.task.specs.Fault.{binder_fault, pred_fault, datatype_fault, function_fault, kvar_fault, task_fault}
 use Rattle.task.specs.Task.{literally_true}
 use Rattle.task.specs.Returns.{every, write_sort_returns, write_binders_return, write_expr_returns, write_pred_returns, write_datatype_decl_returns, write_const_decl_returns, write_fun_def_returns, write_kvar_decl_returns}
 use Rattle.task.proofs.Judging.{sound_parts}

@@ -1,5 +1,5 @@
 -- What is called for: the commands of a task, from the decoded task, without the writer. They are set out once for all tables of names.
-use Rattle.std.specs.Prelude.{Bool, true, false, cond, List, [], ◌∷◌, ◌++◌, map}
+use Rattle.std.specs.Prelude.{Bool, false, cond, List, [], ◌∷◌, ◌++◌, map}
 use Rattle.smtlib.specs.Lexicon.{bytes, same}
 use Rattle.smtlib.specs.Read.{Token, Sexps, Command}
 use Rattle.task.specs.Ast.{Binder, Pred, Task}

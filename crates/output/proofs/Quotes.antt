@@ -1,6 +1,6 @@
 -- Strings: the loop of has_quote, and the bytes of a string sent at once or one by one.
 use mathlib.Core.Path.{◌≡◌, sym, ap, ◌∙◌}
-use mathlib.Core.Bool.{Bool, true, false, not, ◌||◌, or-true, or-false}
+use mathlib.Core.Bool.{Bool, true, false, ◌||◌, or-true, or-false}
 use mathlib.Core.List.{List, [], ◌∷◌, ◌++◌}
 use Prim.Native.Nat.{ℕ, suc, ◌+◌, ◌<◌, ◌≤◌}
 use native.Mathlib.Numerals.{add-one}
@@ -9,7 +9,6 @@ use lib.Seq.{drop-cons}
 use borrow.Author.Tests.{eq-eqb, ne_eqb}
 use Rattle.smtlib.specs.Lexicon.{any}
 use Rattle.smtlib.specs.Read.{doubled}
-use Rattle.smtlib.proofs.Bools.{is_false, true_holds}
 use Rattle.smtlib.proofs.Lexer.{doubled_append}
 use Rattle.smt_text.specs.Table.{is_quote}
 use Rattle.smt_text.proofs.Texts.{unquoted}

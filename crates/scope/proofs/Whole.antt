@@ -13,7 +13,7 @@ use Rattle.task.specs.Ast.{FunDef, Task}
 use Rattle.task.specs.Decode.{function, section, dec_constraint, deepest}
 use Rattle.task.specs.Fault.{lower, each, function_fault, task_fault}
 use Rattle.task.specs.Scope.{declared_by, taken_names, everywhere, in_constraint, arity_of, functions_scope, globals_of, constraint_names, names_fault}
-use Rattle.task.specs.Task.{bound, framed, decoded}
+use Rattle.task.specs.Task.{bound}
 use Rattle.task.proofs.Reading.{same_value}
 use Rattle.task.proofs.Judging.{sound_parts}
 use Rattle.task.proofs.Pieces.{each_covers}

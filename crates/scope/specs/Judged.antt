@@ -1,5 +1,5 @@
 -- What the walk over the functions and over the whole file tells. Only contracts of inner functions and of `inspect` speak of it.
-use Rattle.std.specs.Prelude.{ℕ, ◌+◌, ◌≡◌, true, List, ◌++◌, map, length, take}
+use Rattle.std.specs.Prelude.{ℕ, ◌≡◌, true, List, ◌++◌, map, length, take}
 use Rattle.task.specs.declared.Fault.{Fault}
 use Rattle.task.specs.declared.Fault.TheVariants.{Sound}
 use Rattle.task.specs.Ast.{FunDef, Task}

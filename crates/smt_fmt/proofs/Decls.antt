@@ -1,7 +1,6 @@
 -- What the steps of the writers of predicates and declarations add up to.
 use mathlib.Core.Path.{◌≡◌, refl, sym, ap, ◌∙◌}
 use mathlib.Core.List.{List, [], ◌∷◌}
-use mathlib.Core.Option.{none}
 use Prim.Native.Nat.{ℕ, suc, ◌+◌, ◌-◌, ◌<◌, ◌≤◌}
 use native.Mathlib.Numerals.{add-one}
 use native.Mathlib.Omega.{arith}
@@ -15,7 +14,7 @@ use Rattle.task.specs.declared.PredNode.TheVariants as pred_node
 use Rattle.task.specs.declared.Span.{Span}
 use Rattle.task.specs.declared.SpanRead.{SpanRead}
 use Rattle.task.specs.declared.SpanRead.TheVariants as span_is
-use Rattle.task.specs.Ast.{Sorts, Expr, Exprs, Pred}
+use Rattle.task.specs.Ast.{Sorts, Exprs, Pred}
 use Rattle.task.specs.Decode.{Res, bind, number, many, name, binder, dec_sort, dec_expr, dec_pred, data_ctor, datatype, constant, kvar, deepest}
 use Rattle.task.specs.Node.{number_of, bytes_of, span_of, pred_of, PredAt}
 use Rattle.task.proofs.Nodes.{pred_at}

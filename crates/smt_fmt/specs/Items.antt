@@ -5,7 +5,7 @@ use Rattle.std.proofs.Math.Option.{Option}
 use Rattle.smtlib.specs.Lexicon.{bytes}
 use Rattle.smtlib.specs.Compose.{decimal}
 use Rattle.task.specs.Ast.{Sort, Sorts, Expr, Exprs, DataCtor, FunBody, FunDef}
-use Rattle.task.specs.Decode.{Res, got, Decoder, give, ◌▹◌, many, name, flag, dec_sort, body, deepest}
+use Rattle.task.specs.Decode.{Res, got, Decoder, give, ◌▹◌, many, flag, dec_sort, body, deepest}
 use Rattle.smt_text.specs.Encoder.{Encoder, zip}
 use Rattle.smt_text.specs.Text.{spaced, sexp_list, applied, write_name, write_sort, write_sorts, write_binder, write_binders, write_expr, write_exprs, write_ctors, write_parameters, write_fun_signature, write_fun_body}
 use Rattle.output.specs.Emit.{Output, emits}

@@ -3,7 +3,7 @@ use mathlib.Core.Path.{◌≡◌, refl, ap, subst}
 use mathlib.Core.List.{List, [], ◌∷◌, ◌++◌, append_assoc, append-nil}
 use Prim.Native.Nat.{ℕ}
 use lib.Dec.{T, eqb, eqb→eq, not_T}
-use Rattle.smtlib.specs.Lexicon.{class, all, visible, string_byte}
+use Rattle.smtlib.specs.Lexicon.{class, visible, string_byte}
 use Rattle.smtlib.specs.Read.{as_string, Item, closing, token, opening, no_line_feed, done, skip, comment, opens, closes, spells, Sexps, end, atom, list, items, script}
 use Rattle.smtlib.specs.Compose.{append}
 use Rattle.smtlib.specs.Theorems.{Composition, StringSpells}

@@ -12,7 +12,7 @@ use lib.Seq.{take-append-le, take-append-add, take-length}
 use Rattle.smtlib.specs.Lexicon.{Class, right_paren, quote, class, all, quoted_byte}
 use Rattle.smtlib.specs.Read.{Token, doubled, Spells, as_word, as_string, as_quoted, Item, opening, closing, token, Parted, no_line_feed, LineEnds}
 use Rattle.smtlib.specs.Read.{Lexes, done, skip, comment, opens, closes, spells, Command, script, Reading}
-use Rattle.smtlib.specs.Cut.{Mode, in_code, in_comment, in_string, in_quoted, Scan, at, meet, step, scan, depth, commands, closed}
+use Rattle.smtlib.specs.Cut.{Mode, in_code, in_comment, in_string, in_quoted, Scan, at, meet, step, scan, closed}
 use Rattle.smtlib.specs.Theorems.{Unique, Prefix, Whole, Cuts}
 use Rattle.smtlib.proofs.Bools.{is_true, is_false, true_holds, all_head, all_tail}
 use Rattle.smtlib.proofs.Plain.{plain_byte, is_plain_lem, kind_plain}

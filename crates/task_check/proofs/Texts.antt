@@ -7,7 +7,6 @@ use native.Mathlib.Numerals.{add-one}
 use lib.ListN.{length, drop, get_or, drop_of_length-le}
 use lib.Seq.{drop-cons}
 use Rattle.smtlib.specs.Lexicon.{all}
-use Rattle.smtlib.proofs.Bools.{is_false, true_holds}
 
 pub set_is : (b : Bool) → not b ≡ false → b ≡ true
 set_is true e = refl
