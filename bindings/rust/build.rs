@@ -1,4 +1,4 @@
-//! Links the archive. It is made by `rt staticlib jiggerreef` and stands in the repository's target/staticlib, or in the directory that the
+//! Links the archive. It is made by `bindings/archive` and stands in the repository's target/staticlib, or in the directory that the
 //! variable JIGGERREEF_ARCHIVE names.
 use std::{env, path::PathBuf};
 
@@ -7,7 +7,7 @@ fn main() {
     let own = || PathBuf::from(env!("CARGO_MANIFEST_DIR")).join("../../target/staticlib");
     let directory = env::var_os("JIGGERREEF_ARCHIVE").map_or_else(own, PathBuf::from);
     let archive = directory.join("libjiggerreef.a");
-    assert!(archive.exists(), "no {}: run `rt staticlib jiggerreef` in the repository first", archive.display());
+    assert!(archive.exists(), "no {}: run `bindings/archive` in the repository first", archive.display());
     println!("cargo:rerun-if-changed={}", archive.display());
     println!("cargo:rustc-link-search=native={}", directory.display());
     println!("cargo:rustc-link-lib=static=jiggerreef");

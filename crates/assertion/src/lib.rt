@@ -258,6 +258,7 @@ fn open_implication(bound: bool, buf: &mut [u8], out: Out) -> Out
 }
 
 // Sends what stands before the guards: `and`, unless there are none or one alone before a KVar, for which `true` stands if there are none.
+#[tactic(auto, unfolding(crate::specs::Under::group_text, output::specs::Emit::emits))]
 fn open_guards(kvar: bool, count: u64, buf: &mut [u8], out: Out) -> Out
     ensures { output buf.new result.len ≡ emits (output buf.old out.len) (group_text kvar count) }
 {

@@ -69,6 +69,7 @@ fn check_ctors(s: &[u8], at: usize, n: u64) -> Walked
 }
 
 // The fault of a datatype without constructors.
+#[tactic(auto, unfolding(task::specs::Fault::empty_fault))]
 fn empty_fault(n: u64) -> Fault
     ensures { result ≡ empty_fault n }
 {
@@ -129,6 +130,7 @@ fn check_name(s: &[u8], at: usize) -> Walked
 }
 
 // The fault of a body with another number of argument names than the function has inputs.
+#[tactic(auto, unfolding(task::specs::Fault::arity_fault))]
 fn arity_fault(args: u64, inputs: u64) -> Fault
     ensures { result ≡ arity_fault args inputs }
 {

@@ -1,5 +1,6 @@
-// `survey`, `part`, `run` and `script` as the archive has them: jiggerreef_c exports these functions to C and Rust. A call answers 0 and stores its values, or it answers the number of its refusal
-// and stores nothing. They ask nothing of the bytes, the edition's number, an index, a count or the length of a buffer or a table.
+// `survey`, `part`, `run` and `script` as the archive has them: jiggerreef_c exports these functions to C and Rust. A call answers 0 and stores its
+// values, or it answers the number of its refusal and stores nothing. They ask nothing of the bytes, the edition's number, an index, a count or the
+// length of a buffer or a table.
 #![tactic(auto)]
 
 ghost use Rattle.std.specs.Prelude.{◌≡◌, [], ◌∷◌, length};

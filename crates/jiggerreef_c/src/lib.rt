@@ -50,7 +50,7 @@ pub extern "C" fn jiggerreef_run(
 }
 
 // Writes the script to the buffer's start and stores its length; or answers survey's refusal, then 9 if it is longer than the buffer. What
-// the buffer then holds carries demand 3.
+// the buffer then holds is read as the commands that the task calls for, and in no other way.
 #[unsafe(no_mangle)]
 pub extern "C" fn jiggerreef_script(file: &[u8], buf: &mut [u8], edition: u8, len: &mut usize) -> u8
     ensures value { (result ≡ number (script_answer (names_of (edition_of edition)) file.now (length buf.old))) × (len.new ∷ [] ≡ stored (script_answer (names_of (edition_of edition)) file.now (length buf.old)) (len.old ∷ [])) × (buf.new ≡ script_buffer (names_of (edition_of edition)) file.now buf.old) }

@@ -90,6 +90,7 @@ fn is_at(s: &[u8], at: usize, name: &[u8]) -> bool
 }
 
 // Whether entry k has the name and a kind in the range.
+#[tactic(auto, using(crate::proofs::Chains::entry_low, crate::proofs::Chains::entry_high, crate::proofs::Chains::entry_named, crate::proofs::Chains::word_named))]
 fn is_entry(s: &[u8], table: &[u16], k: usize, name: &[u8], lowest: u16, highest: u16) -> bool
     requires within { 1026 + 3 * k + 2 < length table.now }
     requires named { Named s.now (get_or table.now (1026 + 3 * k + 1) 0) }

@@ -182,6 +182,7 @@ fn digits_of(lo: u64, hi: u64, keep: bool) -> Digits
 }
 
 // Whether a text has a quotation mark. Every byte is looked at: a loop with no other way out is compiled to look at many at once.
+#[tactic(auto, using(crate::proofs::Quotes::quote_met, crate::proofs::Quotes::quote_not_met, crate::proofs::Quotes::quotes_end))]
 fn has_quote(text: &[u8]) -> bool
     ensures { result ≡ any is_quote text.now }
 {
@@ -272,6 +273,7 @@ impl Out {
     }
 
     // Sends a byte of a string: a quotation mark twice.
+    #[tactic(auto, using(crate::proofs::Quotes::quote_byte, crate::proofs::Quotes::other_byte))]
     fn string_byte(self, buf: &mut [u8], b: u8) -> Self
         ensures { output buf.new result.len ≡ emits (output buf.old self.len) (doubled_of (b ∷ [])) }
     {

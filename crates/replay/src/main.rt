@@ -13,9 +13,11 @@ ghost use Rattle.io.specs.Counts.{IsPrefixLen};
 use output::Out;
 use smt_horn::{Surveyed, Written};
 use smt_text::Edition;
+use std::env::FillError;
 use std::fs;
 use std::fs::File;
 use std::io::Read;
+use std::rt::Env;
 
 // Standard output.
 const STDOUT_FILENO: i32 = 1;
@@ -38,9 +40,9 @@ struct Joined {
     good: bool,
 }
 
-fn main(rt: HostRuntime) -> std::io::Result<()> {
+fn main(rt: HostRuntime) {
     let mut buf = filled_buffer();
-    replay_all(&rt, &mut buf)
+    replay_all(&rt, &mut buf);
 }
 
 // 1,048,576 bytes that are filled: the buffer of every call.
@@ -51,29 +53,41 @@ fn filled_buffer() -> [u8; 1048576]
 }
 
 // Replays the file of each argument.
-fn replay_all(rt: &HostRuntime, buf: &mut [u8]) -> std::io::Result<()> {
-    for name in std::env::args(rt)?.skip(1) {
-        replay_named(rt, name.as_str(), buf);
+fn replay_all(rt: &HostRuntime, buf: &mut [u8]) {
+    for i in 1..usize::MAX {
+        if !replay(rt, i, buf) {
+            return;
+        }
     }
-    Ok(())
 }
 
-// Replays the file that an argument names.
-fn replay_named(rt: &HostRuntime, name: &str, buf: &mut [u8]) {
+// Replays the file that an argument names, if there is one. A name of more than 4,096 bytes counts as empty.
+fn replay(rt: &HostRuntime, i: usize, buf: &mut [u8]) -> bool {
+    let mut name = io::buffer();
+    let n = match rt.arg(i, &mut name) {
+        Ok(n) => n,
+        Err(FillError::TooLong) => 0,
+        Err(FillError::NotPresent) => return false,
+    };
+    replay_named(rt, &name[..n], buf);
+    true
+}
+
+fn replay_named(rt: &HostRuntime, name: &[u8], buf: &mut [u8]) {
     let mut file = io::large_buffer();
     let n = read_file(rt, name, b".task", &mut file);
     let mut recorded = io::buffer();
     let m = read_file(rt, name, b".answer", &mut recorded);
-    io::write_all(STDOUT_FILENO, name.as_bytes());
+    io::write_all(STDOUT_FILENO, name);
     print_outcome(&file[..n], &recorded[..m], buf);
 }
 
-// Reads the file of that name and ending as far as there is room; none of it where it cannot be opened.
-fn read_file(rt: &HostRuntime, name: &str, ending: &[u8], buf: &mut [u8]) -> usize
+// Reads the file of that name and ending as far as there is room; none of it where it cannot be opened or its name is not UTF-8.
+fn read_file(rt: &HostRuntime, name: &[u8], ending: &[u8], buf: &mut [u8]) -> usize
     ensures { IsPrefixLen result buf.new }
 {
     let mut path = io::buffer();
-    let named = Out::new().bytes(&mut path, name.as_bytes());
+    let named = Out::new().bytes(&mut path, name);
     let ended = named.bytes(&mut path, ending);
     let n = output::least(ended.len, 4096);
     let Ok(text) = std::str::from_utf8(&path[..n]) else {

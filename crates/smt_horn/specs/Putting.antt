@@ -13,14 +13,14 @@ use Rattle.flatten.specs.declared.Progress.{Progress}
 use Rattle.flatten.specs.Parts.{Writing, up, puts}
 use Rattle.parts.specs.Whole.{fresh}
 use Rattle.smt_horn.specs.declared.Asked.{Asked}
-use Rattle.smt_horn.specs.declared.Asked.TheVariants as Asked-is
+use Rattle.smt_horn.specs.declared.Asked.TheVariants as asked_is
 use Rattle.smt_horn.specs.declared.Outcome.{Outcome}
 use Rattle.smt_horn.specs.declared.Outcome.TheVariants as outcome_is
 
 -- the numbers of the parts that are asked for
 abbrev pub range_of : Asked → Range
-range_of Asked-is.All = record { from = 0; to = most }
-range_of (Asked-is.Run first count) = record { from = first; to = up first count }
+range_of asked_is.All = record { from = 0; to = most }
+range_of (asked_is.Run first count) = record { from = first; to = up first count }
 
 -- what is answered once parts were counted and measured: their length, or 9 if it is more than the buffer has
 abbrev pub sized : Progress → ℕ → Answer
@@ -28,8 +28,8 @@ sized p room = cond (leb p.len room) (values (p.len ∷ [])) (refused 9)
 
 -- the same by what was asked for: of a run all parts must be there, and the table must have a place for each
 abbrev pub answer_to : Asked → Progress → ℕ → ℕ → Answer
-answer_to Asked-is.All p room places = sized p room
-answer_to (Asked-is.Run first count) p room places = cond (leb (up first count) p.seen) (cond (leb count places) (sized p room) (refused 9)) (refused 8)
+answer_to asked_is.All p room places = sized p room
+answer_to (asked_is.Run first count) p room places = cond (leb (up first count) p.seen) (cond (leb count places) (sized p room) (refused 9)) (refused 8)
 
 -- what the parts of a task that are asked for become, in a buffer and a table
 abbrev pub put_of : Edition → Task → Asked → List ℕ → List ℕ → Writing
@@ -62,9 +62,9 @@ Puts file edition a buf after lengths lengths' (outcome_is.Refused n) = (task_of
 
 -- what a call for parts answers and leaves
 unfoldable pub Answers : List ℕ → Edition → Asked → List ℕ → List ℕ → List ℕ → List ℕ → Answer → Type 0
-Answers file edition Asked-is.All buf after lengths lengths' r =
+Answers file edition asked_is.All buf after lengths lengths' r =
     (r ≡ script_answer (names_of edition) file (length buf)) × (after ≡ script_buffer (names_of edition) file buf)
-Answers file edition (Asked-is.Run first count) buf after lengths lengths' r =
+Answers file edition (asked_is.Run first count) buf after lengths lengths' r =
     (r ≡ run_answer (names_of edition) file first count (length buf) (length lengths))
     × (after ≡ run_buffer (names_of edition) file first count buf lengths)
     × (lengths' ≡ run_table (names_of edition) file first count buf lengths)

@@ -1,5 +1,5 @@
 -- Where the source's writer returns: `smt_fmt.rs` with `SmtOptions::HORN` and `write_kvar_decl` of `smt_horn.rs`, function by function under the
--- source's names with `-` for `_`. A function does not return at the `assert!`, `panic!`, `unreachable!` and `unwrap` that it comes to, and it
+-- source's names. A function does not return at the `assert!`, `panic!`, `unreachable!` and `unwrap` that it comes to, and it
 -- comes only to places that it writes. `ds` are the datatypes of the task, from which the source makes its encoder.
 use Rattle.std.specs.Prelude.{Bool, true, false, cond, not, ◌&&◌, ◌||◌, List, [], ◌∷◌, ℕ}
 use Rattle.std.proofs.Math.Option.{Option, none, some}

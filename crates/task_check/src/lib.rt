@@ -401,6 +401,7 @@ pub fn check_preds(s: &[u8], at: usize, n: u64, levels: usize) -> Walked
 }
 
 // Whether the predicate at a position is literally true: the three bytes of Boolean true as a predicate stand there, and levels are left for them.
+#[tactic(auto, using(crate::proofs::Preds::true_none, crate::proofs::Preds::true_at_lem, crate::proofs::Preds::true_short, crate::proofs::Preds::true_first, crate::proofs::Preds::true_second, crate::proofs::Preds::true_third))]
 pub fn is_literally_true(s: &[u8], at: usize, levels: usize) -> bool
     ensures { result ≡ read_true (dec_pred levels s.now at) }
 {
