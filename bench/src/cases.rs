@@ -99,7 +99,7 @@ fn heads(many: usize) -> String { format!("1 #{many} {}", "0 F ".repeat(many)) }
 /// Whole, it is a file that was recorded.
 fn deep(quarters: usize) -> Vec<u8> {
     let file = packed(&format!("h: {}", nested(share(DEEP_FORALLS, quarters), &heads(share(DEEP_HEADS, quarters)))));
-    assert!(quarters < WHOLE || file == include_bytes!("../../crates/replay/data/deep.task"));
+    assert!(quarters < WHOLE || file == include_bytes!("../../crates/replay_long/data/deep.task"));
     file
 }
 

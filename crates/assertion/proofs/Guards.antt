@@ -2,28 +2,20 @@
 use mathlib.Core.Path.{◌≡◌, refl, sym, ap, ◌∙◌, subst}
 use mathlib.Core.Bool.{Bool, true, false, cond, ◌&&◌}
 use mathlib.Core.List.{List, [], ◌∷◌, ◌++◌, append-nil, append_assoc}
-use Prim.Native.Nat.{ℕ, zero, suc, ◌+◌, ◌-◌, ◌<◌, ◌≤◌}
+use Prim.Native.Nat.{ℕ, suc, ◌+◌, ◌-◌, ◌<◌, ◌≤◌}
 use native.Mathlib.Numerals.{add-one}
 use native.Mathlib.Omega.{arith}
 use lib.Dec.{leb, eqb}
 use lib.ListN.{length, drop, get_or, drop_of_length-le}
-use lib.Seq.{drop-cons, get_or-take}
+use lib.Seq.{drop-cons}
 use borrow.Author.Tests.{leb-true, eqb-true}
-use Rattle.path.specs.declared.Path.{Path}
-use Rattle.path.specs.Offsets.{entries, Leaves}
-use Rattle.path.proofs.Entries.{depth_is}
 use Rattle.task.specs.declared.Fault.{Fault}
-use Rattle.task.specs.declared.Number.{Number}
-use Rattle.task.specs.declared.Number.TheVariants as number_is
 use Rattle.task.specs.Ast.{Constant, Expr, Pred}
-use Rattle.task.specs.Decode.{Res, got, number, many, counted, binder, dec_pred, deepest, flags, expr_forms, dec_expr, pred_forms}
+use Rattle.task.specs.Decode.{Res, got, refuse, number, many, counted, binder, dec_pred, deepest, flags, expr_forms, dec_expr, pred_forms}
 use Rattle.task.specs.Fault.{binder_fault}
 use Rattle.task.specs.Task.{literally_true}
-use Rattle.task.specs.Node.{number_of}
 use Rattle.smtlib.proofs.Bools.{clash}
 use Rattle.task.proofs.Reading.{bind_got, got_refuse, coded_at}
-use Rattle.task_check.specs.declared.Walked.{Walked}
-use Rattle.task_check.specs.declared.Walked.TheVariants as walked_is
 use Rattle.task_check.specs.Walk.{walked, read_true}
 use Rattle.task_check.proofs.Preds.{true_at, true_at_lem}
 use Rattle.task_check.proofs.Rows.{refused_is}
@@ -60,40 +52,29 @@ module _ {W : Type 0} {one : W → ForAll → W} {all : W → List ForAll → W}
       let e : drop i a ≡ [] = drop_of_length-le a {i = i} g in
       owing_end steps (on_path s a) first 0 w (subst (λ (os : List ℕ). Owing steps (on_path s a) first (on_path s os) w) e l)
 
--- the same of a path by value, at whose offsets the code looks
-module _ {W : Type 0} {one : W → ForAll → W} {all : W → List ForAll → W} (steps : Steps [] ◌∷◌ one all) (s : List ℕ) (p : Path) (first : W) (h : Leaves p 0) where
-  pub along_offset : (i at : ℕ) (w w' : W) → i < p.depth → at ≡ get_or p.offsets i 0 → Along steps s (entries p) first i w → Runs one (for_all_at s at) w w' 0
-      → Along steps s (entries p) first (i + 1) w'
-  along_offset i at w w' g e l u =
-      along_more steps s (entries p) first i w w' (rw (depth_is p 0 h) g) l
-      (subst (λ (o : ℕ). Runs one (for_all_at s o) w w' 0) (e ∙ sym (get_or-take p.depth p.offsets i 0 g)) u)
-
-  pub along_done : (i : ℕ) (w : W) → p.depth ≤ i → Along steps s (entries p) first i w → Runs all (on_path s (entries p)) first w 0
-  along_done i w g l = along_end steps s (entries p) first i w (rw (depth_is p 0 h) g) l
-
 -- ROWS OF PREDICATES
 
 module _ {W : Type 0} {one : W → Pred → W} {all : W → List Pred → W} (steps : Steps [] ◌∷◌ one all) (s : List ℕ) (m at : ℕ) (first : W) where
-  -- the loop over predicates: n from p on are left
+  -- the loop over m predicates: i were gone through, and the others stand from p on
   pub Through : ℕ → ℕ → W → Type 0
-  Through n p w = Owing steps (many [] ◌∷◌ (dec_pred deepest) m s at) first (many [] ◌∷◌ (dec_pred deepest) n s p) w
+  Through i p w = Owing steps (many [] ◌∷◌ (dec_pred deepest) m s at) first (many [] ◌∷◌ (dec_pred deepest) (m - i) s p) w
 
-  pub through_start : Through m at first
+  pub through_start : Through 0 at first
   unfolding Through
-  through_start = owing_start steps (many [] ◌∷◌ (dec_pred deepest) m s at) first
+  through_start = let e : m - 0 ≡ m = omega arith in rw e (owing_start steps (many [] ◌∷◌ (dec_pred deepest) m s at) first)
 
-  pub through_more : (n p : ℕ) (w w' : W) (q : ℕ) → 0 < n → Through n p w → Runs one (dec_pred deepest s p) w w' q → Through (n - 1) q w'
-  unfolding Through
-  through_more zero p w w' q h l u = absurd (omega arith)
-  through_more (suc n) p w w' q h l u =
-      let en : suc n - 1 ≡ n = omega arith in
-      rw en (owing_more steps (many [] ◌∷◌ (dec_pred deepest) m s at) first (dec_pred deepest s p) (many [] ◌∷◌ (dec_pred deepest) n s) w w' q l u)
+  module _ (i p : ℕ) (w : W) (h : Through i p w) where
+    pub through_more : (w' : W) (q : ℕ) → i < m → Runs one (dec_pred deepest s p) w w' q → Through (i + 1) q w'
+    unfolding Through
+    through_more w' q l u =
+        let e : m - i ≡ suc (m - (i + 1)) = omega arith in
+        owing_more steps (many [] ◌∷◌ (dec_pred deepest) m s at) first (dec_pred deepest s p) (many [] ◌∷◌ (dec_pred deepest) (m - (i + 1)) s) w w' q (rw e at h) u
 
-  pub through_end : (n p : ℕ) (w : W) → n ≤ 0 → Through n p w → Runs all (many [] ◌∷◌ (dec_pred deepest) m s at) first w p
-  unfolding Through
-  through_end n p w h l =
-      let en : n ≡ 0 = omega arith in
-      owing_end steps (many [] ◌∷◌ (dec_pred deepest) m s at) first p w (rw en at l)
+    pub through_end : m ≤ i → Runs all (many [] ◌∷◌ (dec_pred deepest) m s at) first w p
+    unfolding Through
+    through_end l =
+        let e : m - i ≡ 0 = omega arith in
+        owing_end steps (many [] ◌∷◌ (dec_pred deepest) m s at) first p w (rw e at h)
 
 -- LISTS
 
@@ -235,29 +216,29 @@ binder_runs enc s o w w' q u f z e =
     (sym i.zero_is, (u f.binder i.p i.binds).1 ∙ rw (append-nil (write_binder enc f.binder)))
 
 -- its predicates are run: behind the binder stands their number
-module _ {W : Type 0} (all : W → List Pred → W) (s : List ℕ) (o : ℕ) (w w' : W) (v : Walked) (e : v ≡ walked binder_fault (binder deepest s o)) where
-  pub own_unbound : (k : ℕ) → v ≡ walked_is.Refused k → Runs (λ z f. all z f.preds) (for_all_at s o) w w' 0
-  own_unbound k e' f z g =
+module _ {W : Type 0} (all : W → List Pred → W) (s : List ℕ) (o : ℕ) (w w' : W) where
+  pub own_unbound : (k : ℕ) → refuse k ≡ walked binder_fault (binder deepest s o) → Runs (λ z f. all z f.preds) (for_all_at s o) w w' 0
+  own_unbound k e f z g =
       let i = parts s o f z g in
-      got_refuse (sym i.binds ∙ refused_is binder_fault (binder deepest s o) k (sym e' ∙ e))
+      got_refuse (sym i.binds ∙ refused_is binder_fault (binder deepest s o) k e)
 
-  module _ (p : ℕ) (h : Fault) (e' : v ≡ walked_is.Next h p) (m : Number) (u : number 2 s p ≡ number_of m) where
+  module _ (p : ℕ) (h : Fault) (e : got h p ≡ walked binder_fault (binder deepest s o)) where
     behind : (f : ForAll) (z : ℕ) (g : for_all_at s o ≡ got f z) → (parts s o f z g).p ≡ p
     behind f z g =
         let i = parts s o f z g in
-        let x : walked_is.Next h p ≡ walked_is.Next (binder_fault f.binder) i.p = sym e' ∙ e ∙ ap (walked binder_fault) i.binds in
+        let x : got h p ≡ got (binder_fault f.binder) i.p = e ∙ ap (walked binder_fault) i.binds in
         cc
 
-    pub own_uncounted : m ≡ number_is.Refused → Runs (λ z f. all z f.preds) (for_all_at s o) w w' 0
-    own_uncounted u' f z g =
+    pub own_uncounted : (k : ℕ) → number 2 s p ≡ refuse k → Runs (λ z f. all z f.preds) (for_all_at s o) w w' 0
+    own_uncounted k u f z g =
         let i = parts s o f z g in
-        got_refuse (sym i.counted_by ∙ ap (number 2 s) (behind f z g) ∙ u ∙ ap number_of u')
+        got_refuse (sym i.counted_by ∙ ap (number 2 s) (behind f z g) ∙ u)
 
-    pub own_runs : (n q : ℕ) → m ≡ number_is.Value n q → ((ps : List Pred) (r : ℕ) → many [] ◌∷◌ (dec_pred deepest) n s q ≡ got ps r → w' ≡ all w ps)
+    pub own_runs : (n q : ℕ) → number 2 s p ≡ got n q → ((ps : List Pred) (r : ℕ) → many [] ◌∷◌ (dec_pred deepest) n s q ≡ got ps r → w' ≡ all w ps)
         → Runs (λ z f. all z f.preds) (for_all_at s o) w w' 0
-    own_runs n q u' k f z g =
+    own_runs n q u k f z g =
         let i = parts s o f z g in
-        let x : got n q ≡ got i.n i.q = sym (u ∙ ap number_of u') ∙ ap (number 2 s) (sym (behind f z g)) ∙ i.counted_by in
+        let x : got n q ≡ got i.n i.q = sym u ∙ ap (number 2 s) (sym (behind f z g)) ∙ i.counted_by in
         let en : n ≡ i.n = cc in
         let eq : q ≡ i.q = cc in
         (sym i.zero_is, k f.preds i.r (rw (en, eq) i.holds))

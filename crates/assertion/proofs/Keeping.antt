@@ -97,16 +97,9 @@ pub keeps_start : (enc : Encoder) (text : List ℕ) (k : code.Kept) → (k.vars 
 unfolding vars_text guards_text
 keeps_start enc text k e = record { measures = same_kept e.0 e.1 e.2; vars = λ h. refl; guards = λ h. refl }
 
--- nothing moved
-pub stays_same : (k : code.Kept) (text : List ℕ) → Stays k text text
-stays_same k text = record { size = refl; same_vars = refl; same_guards = refl }
-
+-- what stays and stays again stays
 pub stays_then : (k : code.Kept) (a a' a'' : List ℕ) → Stays k a a' → Stays k a' a'' → Stays k a a''
 stays_then k a a' a'' x y = record { size = y.size ∙ x.size; same_vars = y.same_vars ∙ x.same_vars; same_guards = y.same_guards ∙ x.same_guards }
-
--- by the same numbers
-pub stays_kept : (k k' : code.Kept) (a a' : List ℕ) → k' ≡ k → Stays k' a a' → Stays k a a'
-stays_kept k k' a a' e x = rw e at x
 
 -- what stays is kept still
 pub keeps_stays : (enc : Encoder) (fs : List ForAll) (text text' : List ℕ) (k : code.Kept) → Keeps enc fs text k → Stays k text text' → Keeps enc fs text' k

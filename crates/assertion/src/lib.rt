@@ -16,8 +16,6 @@ ghost use Rattle.assertion.specs.Kept.{plus as plus_is, minus as minus_is, Withi
 use output::Out;
 use path::Path;
 use smt_word::Sent;
-use task::Number;
-use task_check::Walked;
 
 // Guards in a row: where the next predicate stands, what was sent, and how many guards they are.
 #[derive(Clone, Copy)]
@@ -28,7 +26,7 @@ struct Listed {
 }
 
 // How an assertion is put together: for a KVar or for an expression, with binders or without, and the number of its guards.
-#[derive(Clone, Copy)]
+#[derive(Clone, Copy, PartialEq, Eq, Debug)]
 pub struct Form {
     pub kvar: bool,
     pub bound: bool,
@@ -36,7 +34,7 @@ pub struct Form {
 }
 
 // What is kept of the ForAlls around a place: how long the text of their binders is and that of their guards, and how many guards there are.
-#[derive(Clone, Copy)]
+#[derive(Clone, Copy, PartialEq, Eq, Debug)]
 pub struct Kept {
     pub vars: usize,
     pub guards: usize,
@@ -48,13 +46,10 @@ fn write_each_var(s: &[u8], path: Path, enc: &[u16], buf: &mut [u8], out: Out) -
     requires { Chained s.now enc.now × Leaves path 0 }
     ensures { Sends (vars_text (encoder_in s.now enc.now)) (on_path s.now (entries path)) (output buf.old out.len) (output buf.new result.len) 0 }
 {
-    let mut i: usize = 0;
     let mut sent = out;
-    while i < path.depth {
-        let at = path::position(path.offsets[i]);
-        let one = smt_sort::write_binder(s, at, 256, enc, buf, sent);
+    for offset in path.offsets() {
+        let one = smt_sort::write_binder(s, path::position(*offset), 256, enc, buf, sent);
         sent = one.out;
-        i += 1;
     }
     sent
 }
@@ -65,9 +60,7 @@ fn write_guard(s: &[u8], from: Listed, enc: &[u16], buf: &mut [u8]) -> Listed
     ensures runs { Runs (λ w p. lists (encoder_in s.now enc.now) w (p ∷ [])) (dec_pred deepest s.now from.at) (listing buf.old from.out.len from.count) (listing buf.new result.out.len result.count) result.at }
     ensures one_more { result.count ≤ from.count + 1 }
 {
-    let at = from.at;
-    let out = from.out;
-    let count = from.count;
+    let Listed { at, out, count } = from;
     if task_check::is_literally_true(s, at, 256) {
         return Listed {
             at: at + 3,
@@ -77,10 +70,9 @@ fn write_guard(s: &[u8], from: Listed, enc: &[u16], buf: &mut [u8]) -> Listed
     }
     let spaced = out.byte(buf, b' ');
     let one = smt_fmt::write_pred(s, at, 256, enc, buf, spaced);
-    let sent = one.out;
     Listed {
         at: one.at,
-        out: sent,
+        out: one.out,
         count: count + 1,
     }
 }
@@ -91,10 +83,8 @@ fn write_kept(s: &[u8], at: usize, n: u64, enc: &[u16], buf: &mut [u8], out: Out
     ensures { Runs (lists (encoder_in s.now enc.now)) (many [] ◌∷◌ (dec_pred deepest) n s.now at) (listing buf.old out.len 0) (listing buf.new result.out.len result.count) result.at }
 {
     let mut listed = Listed { at, out, count: 0 };
-    let mut left = n;
-    while 0 < left {
+    for _ in 0..n {
         listed = write_guard(s, listed, enc, buf);
-        left -= 1;
     }
     listed
 }
@@ -104,12 +94,10 @@ fn write_own_guards(s: &[u8], at: usize, enc: &[u16], buf: &mut [u8], out: Out) 
     requires { Chained s.now enc.now }
     ensures { Runs (λ w f. lists (encoder_in s.now enc.now) w f.preds) (for_all_at s.now at) (listing buf.old out.len 0) (listing buf.new result.out.len result.count) 0 }
 {
-    let binder = task_check::check_binder(s, at, 256);
-    let Walked::Next(_, p) = binder else {
+    let Ok((_, p)) = task_check::check_binder(s, at, 256) else {
         return Listed { at, out, count: 0 };
     };
-    let number = task::number_at(s, p, 2);
-    let Number::Value(n, q) = number else {
+    let Ok((n, q)) = task::number_at(s, p, 2) else {
         return Listed { at, out, count: 0 };
     };
     write_kept(s, q, n, enc, buf, out)
@@ -120,13 +108,10 @@ fn write_each_guard(s: &[u8], path: Path, enc: &[u16], buf: &mut [u8], out: Out)
     requires { Chained s.now enc.now × Leaves path 0 }
     ensures { Sends (guards_text (encoder_in s.now enc.now)) (on_path s.now (entries path)) (output buf.old out.len) (output buf.new result.len) 0 }
 {
-    let mut i: usize = 0;
     let mut sent = out;
-    while i < path.depth {
-        let at = path::position(path.offsets[i]);
-        let own = write_own_guards(s, at, enc, buf, sent);
+    for offset in path.offsets() {
+        let own = write_own_guards(s, path::position(*offset), enc, buf, sent);
         sent = own.out;
-        i += 1;
     }
     sent
 }
@@ -172,10 +157,7 @@ impl Kept {
         ensures { result ≡ fits_in size self }
     {
         let half = size / 2;
-        if half < self.vars {
-            return false;
-        }
-        self.guards <= size - half
+        self.vars <= half && self.guards <= size - half
     }
 }
 
@@ -184,10 +166,9 @@ fn keep_binder(s: &[u8], at: usize, enc: &[u16], text: &mut [u8], n: usize) -> u
     requires { Chained s.now enc.now × (length s.now < 65536) }
     ensures { Stores (λ f. vars_text (encoder_in s.now enc.now) (f ∷ [])) (for_all_at s.now at) n text.old text.new result }
 {
-    let start = output::least(n, text.len());
+    let start = n.min(text.len());
     let sent = smt_sort::write_binder(s, at, 256, enc, &mut text[start..], Out::new());
-    let out = sent.out;
-    out.len
+    sent.out.len
 }
 
 // The same with its guards.
@@ -196,11 +177,12 @@ fn keep_guards(s: &[u8], at: usize, enc: &[u16], text: &mut [u8], n: usize) -> L
     ensures stores { Stores (λ f. guards_text (encoder_in s.now enc.now) (f ∷ [])) (for_all_at s.now at) n text.old text.new result.out.len }
     ensures counts { Counts (for_all_at s.now at) result.count }
 {
-    let start = output::least(n, text.len());
+    let start = n.min(text.len());
     write_own_guards(s, at, enc, &mut text[start..], Out::new())
 }
 
 // Measures what the ForAll at an offset has, and keeps as much of its text as there is room for, behind that of the ForAlls around it.
+#[tactic(auto, using(crate::proofs::Keeping::first_size, crate::proofs::Keeping::extends))]
 pub fn extend(s: &[u8], at: usize, enc: &[u16], text: &mut [u8], kept: Kept) -> Kept
     requires { Chained s.now enc.now × (length s.now < 65536) }
     ensures { Extends s.now enc.now at kept text.old text.new result }
@@ -208,10 +190,9 @@ pub fn extend(s: &[u8], at: usize, enc: &[u16], text: &mut [u8], kept: Kept) -> 
     let half = text.len() / 2;
     let vars = keep_binder(s, at, enc, &mut text[..half], kept.vars);
     let own = keep_guards(s, at, enc, &mut text[half..], kept.guards);
-    let sent = own.out;
     Kept {
         vars,
-        guards: sent.len,
+        guards: own.out.len,
         count: own.count,
     }
 }
@@ -220,10 +201,7 @@ pub fn extend(s: &[u8], at: usize, enc: &[u16], text: &mut [u8], kept: Kept) -> 
 fn is_kvar(s: &[u8], at: usize) -> bool
     ensures { result ≡ kvar_at s.now at }
 {
-    if s.len() <= at {
-        return false;
-    }
-    s[at] == 0
+    matches!(s.get(at), Some(0))
 }
 
 // The form of the assertion of the head at a position, with binders unless their number or length is 0.
@@ -238,6 +216,7 @@ fn form_of(s: &[u8], at: usize, binders: usize, count: u64) -> Form
 }
 
 // Sends what stands before the binders.
+#[tactic(auto, unfolding(crate::specs::Under::opening_text))]
 fn open_assert(bound: bool, buf: &mut [u8], out: Out) -> Out
     ensures { output buf.new result.len ≡ emits (output buf.old out.len) (opening_text bound) }
 {
@@ -248,6 +227,7 @@ fn open_assert(bound: bool, buf: &mut [u8], out: Out) -> Out
 }
 
 // Sends what stands behind them.
+#[tactic(auto, unfolding(crate::specs::Under::implies_text))]
 fn open_implication(bound: bool, buf: &mut [u8], out: Out) -> Out
     ensures { output buf.new result.len ≡ emits (output buf.old out.len) (implies_text bound) }
 {
@@ -262,35 +242,26 @@ fn open_implication(bound: bool, buf: &mut [u8], out: Out) -> Out
 fn open_guards(kvar: bool, count: u64, buf: &mut [u8], out: Out) -> Out
     ensures { output buf.new result.len ≡ emits (output buf.old out.len) (group_text kvar count) }
 {
-    if count == 0 {
-        if kvar {
-            return out.bytes(buf, b" true");
-        }
-        return out;
+    match (kvar, count) {
+        (true, 0) => out.bytes(buf, b" true"),
+        (true, 1) | (false, 0) => out,
+        _ => out.bytes(buf, b" (and"),
     }
-    if !kvar {
-        return out.bytes(buf, b" (and");
-    }
-    if count == 1 {
-        return out;
-    }
-    out.bytes(buf, b" (and")
 }
 
 // Sends what stands behind them: the parenthesis of `and` before a KVar.
+#[tactic(auto, unfolding(crate::specs::Under::ungroup_text, output::specs::Emit::emits))]
 fn close_guards(kvar: bool, count: u64, buf: &mut [u8], out: Out) -> Out
     ensures { output buf.new result.len ≡ emits (output buf.old out.len) (ungroup_text kvar count) }
 {
-    if !kvar {
-        return out;
-    }
-    if 1 < count {
+    if kvar && 1 < count {
         return out.byte(buf, b')');
     }
     out
 }
 
 // Sends what stands before the head: an expression is negated.
+#[tactic(auto, unfolding(crate::specs::Under::before_text, output::specs::Emit::emits))]
 fn open_head(kvar: bool, buf: &mut [u8], out: Out) -> Out
     ensures { output buf.new result.len ≡ emits (output buf.old out.len) (before_text kvar) }
 {
@@ -301,6 +272,7 @@ fn open_head(kvar: bool, buf: &mut [u8], out: Out) -> Out
 }
 
 // Sends what stands behind it: false is implied by the negation of an expression, with guards under one `and`.
+#[tactic(auto, unfolding(crate::specs::Under::behind_text, output::specs::Emit::emits))]
 fn close_head(kvar: bool, count: u64, buf: &mut [u8], out: Out) -> Out
     ensures { output buf.new result.len ≡ emits (output buf.old out.len) (behind_text kvar count) }
 {
@@ -314,6 +286,7 @@ fn close_head(kvar: bool, count: u64, buf: &mut [u8], out: Out) -> Out
 }
 
 // Sends what closes an assertion.
+#[tactic(auto, unfolding(crate::specs::Under::end_text))]
 fn close_assert(bound: bool, buf: &mut [u8], out: Out) -> Out
     ensures { output buf.new result.len ≡ emits (output buf.old out.len) (end_text bound) }
 {
@@ -324,6 +297,7 @@ fn close_assert(bound: bool, buf: &mut [u8], out: Out) -> Out
 }
 
 // Sends the head at a position, and what closes the assertion.
+#[tactic(auto, using(crate::proofs::Asserts::head_sends))]
 fn write_head(
     s: &[u8],
     at: usize,
@@ -338,8 +312,7 @@ fn write_head(
 {
     let opened = open_head(form.kvar, buf, out);
     let head = smt_fmt::write_pred(s, at, levels, enc, buf, opened);
-    let sent = head.out;
-    let closed = close_head(form.kvar, form.count, buf, sent);
+    let closed = close_head(form.kvar, form.count, buf, head.out);
     let ended = close_assert(form.bound, buf, closed);
     Sent {
         at: head.at,
@@ -349,16 +322,16 @@ fn write_head(
 
 // Sends the guards from the text that is kept of them: `true` for none before a KVar, one alone, more under `and`. Before an expression all
 // stand under the `and` that is closed behind it.
+#[tactic(auto, using(crate::proofs::Asserts::fits_both, crate::proofs::Asserts::grouped_by, crate::proofs::Asserts::guards_between))]
 fn write_guard_conjunction(text: &[u8], kept: Kept, kvar: bool, buf: &mut [u8], out: Out) -> Out
     requires { fits_in (length text.now) kept ≡ true }
     ensures { output buf.new result.len ≡ emits (output buf.old out.len) (group_text kvar kept.count ++ (guards_in text.now kept ++ ungroup_text kvar kept.count)) }
 {
     let half = text.len() / 2;
     let end = half + kept.guards;
-    let count = kept.count;
-    let opened = open_guards(kvar, count, buf, out);
+    let opened = open_guards(kvar, kept.count, buf, out);
     let listed = opened.bytes(buf, &text[half..end]);
-    close_guards(kvar, count, buf, listed)
+    close_guards(kvar, kept.count, buf, listed)
 }
 
 // Measures the assertion of the head at a position, inside the ForAlls of which the lengths are kept.
@@ -378,6 +351,7 @@ pub fn measure_assert(s: &[u8], at: usize, levels: usize, kept: Kept, enc: &[u16
 }
 
 // Sends the assertion of the head at a position, inside the ForAlls of which the text is kept.
+#[tactic(auto, using(crate::proofs::Asserts::fits_both, crate::proofs::Asserts::kept_asserts))]
 pub fn write_assert(
     s: &[u8],
     at: usize,
@@ -391,16 +365,16 @@ pub fn write_assert(
     requires { Chained s.now enc.now × (fits_in (length text.now) kept ≡ true) }
     ensures { KeptSends s.now enc.now text.now kept (dec_pred levels s.now at) (output buf.old out.len) (output buf.new result.out.len) result.at }
 {
-    let v = kept.vars;
-    let form = form_of(s, at, v, kept.count);
+    let form = form_of(s, at, kept.vars, kept.count);
     let opened = open_assert(form.bound, buf, out);
-    let listed = opened.bytes(buf, &text[..v]);
+    let listed = opened.bytes(buf, &text[..kept.vars]);
     let implied = open_implication(form.bound, buf, listed);
     let guarded = write_guard_conjunction(text, kept, form.kvar, buf, implied);
     write_head(s, at, levels, form, enc, buf, guarded)
 }
 
 // Sends the assertion of the head at a position, inside the ForAlls of the path, from their offsets and the number of their guards.
+#[tactic(auto, using(crate::proofs::Asserts::long_asserts))]
 pub fn write_long_assert(
     s: &[u8],
     at: usize,

@@ -9,8 +9,6 @@ use Rattle.smt_text.specs.Editions.{NameTable, names_of}
 use Rattle.horn_text.specs.Script.{join, parts_of, script_of, longest}
 use Rattle.horn_text.specs.Answers.{Answer, values, refused}
 use Rattle.console.specs.declared.Turn.{Turn}
-use Rattle.console.specs.declared.Printed.{Printed}
-use Rattle.console.specs.declared.Printed.TheVariants as printed_is
 
 -- TURNS
 
@@ -72,8 +70,3 @@ print_of names (refuse n) = refused n
 -- how many bytes of the script are handed out, in the edition of Z3, or the number of the refusal
 unfoldable pub print_answer : List ℕ → Answer
 print_answer file = print_of (names_of Z3) (task_of file)
-
--- what the program's function answers, in these terms
-abbrev pub printed : Printed → Answer
-printed (printed_is.Script n) = values (n ∷ [])
-printed (printed_is.Refused n) = refused n

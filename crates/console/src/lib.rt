@@ -5,17 +5,19 @@
 
 ghost use Rattle.std.specs.Prelude.{◌≡◌, length};
 ghost use Rattle.inspect.specs.Inspect.{Names};
+ghost use Rattle.task.specs.Node.{number_of};
 ghost use Rattle.task.specs.Task.{task_of};
 ghost use Rattle.smt_text.specs.Editions.{names_of};
 ghost use Rattle.smt_sort.specs.Section.{edition_in};
 ghost use Rattle.horn_text.specs.Answers.{refused};
 ghost use Rattle.flatten.specs.Parts.{up};
 ghost use Rattle.parts.specs.Whole.{Accepted};
-ghost use Rattle.console.specs.Turns.{fitting as fitting_of, Fills, Begun, Short, Whole, print_of, print_answer, printed};
+ghost use Rattle.console.specs.Turns.{fitting as fitting_of, Fills, Begun, Short, Whole, print_of, print_answer};
+ghost use Rattle.smt_horn.specs.Calls.{written};
 
 use flatten::Range;
-use inspect::Inspected;
 use smt_text::Edition;
+use task::Refusal;
 use trailer::Bounds;
 
 // Standard output.
@@ -28,35 +30,22 @@ pub struct Turn {
     pub len: usize,
 }
 
-// What was printed: a script of so many bytes, or the line of a refusal.
-#[derive(Clone, Copy)]
-pub enum Printed {
-    Script(usize),
-    Refused(u8),
-}
-
-// A length as a number of bytes.
-fn wide(n: u32) -> usize
-    ensures { result ≡ n }
-{
-    n as usize
-}
+// How many bytes of a script were printed, or the refusal whose line was.
+pub type Printed = Result<usize, Refusal>;
 
 // How many of the lengths, from the first on, there is room for together.
 fn fitting(lengths: &[u32], room: usize) -> usize
     ensures { result ≡ fitting_of room lengths.now }
 {
     let mut left = room;
-    let mut i: usize = 0;
-    while i < lengths.len() {
-        let n = wide(lengths[i]);
+    for (i, len) in lengths.iter().enumerate() {
+        let n = *len as usize;
         if left < n {
             return i;
         }
         left -= n;
-        i += 1;
     }
-    i
+    lengths.len()
 }
 
 // Puts as many parts, from a number on, to the buffer's start as fit it and a table of their lengths.
@@ -124,43 +113,43 @@ fn print_turns(file: &[u8], b: Bounds, enc: &[u16], n: usize) -> usize
 }
 
 // Writes the line of a refusal.
-pub fn print_refused(n: u8) -> Printed
-    ensures { printed result ≡ refused n }
+pub fn print_refused(refusal: Refusal) -> Printed
+    ensures { written result ≡ refused (number_of refusal) }
 {
     io::write_all(STDOUT_FILENO, b"refused ");
-    io::print_decimal(STDOUT_FILENO, n as u64);
+    io::print_decimal(STDOUT_FILENO, u8::from(refusal).into());
     io::write_all(STDOUT_FILENO, b"\n");
-    Printed::Refused(n)
+    Err(refusal)
 }
 
 // Writes the script of a task whose sections and names are known; or 9 if a part is longer than 65,536 bytes.
 fn print_task(file: &[u8], b: Bounds, enc: &[u16]) -> Printed
     requires { Accepted file.now b × Names file.now enc.now }
-    ensures { printed result ≡ print_of (names_of (edition_in enc.now)) (task_of file.now) }
+    ensures { written result ≡ print_of (names_of (edition_in enc.now)) (task_of file.now) }
 {
     let mut none = [0u32; 0];
     let all = Range {
         from: 0,
-        to: 18446744073709551615,
+        to: usize::MAX,
     };
     let sizes = parts::measure(file, b, enc, all, &mut none);
     if 65536 < sizes.longest {
-        return print_refused(9);
+        return print_refused(Refusal::Room);
     }
-    Printed::Script(print_turns(file, b, enc, sizes.seen))
+    Ok(print_turns(file, b, enc, sizes.seen))
 }
 
 // Writes the script of a file, or `refused N`.
 pub fn print_script(file: &[u8]) -> Printed
-    ensures { printed result ≡ print_answer file.now }
+    ensures { written result ≡ print_answer file.now }
 {
     let mut table = [0u16; 61026];
-    let inspected = inspect::inspect(file, &mut table);
-    match inspected {
-        Inspected::Task(b, _, _) => {
+    match inspect::inspect(file, &mut table) {
+        Ok(found) => {
+            let b = found.bounds;
             smt_sort::set_edition(&mut table, Edition::Z3);
             print_task(file, b, &table)
         }
-        Inspected::Refused(n) => print_refused(n),
+        Err(refusal) => print_refused(refusal),
     }
 }

@@ -1,4 +1,5 @@
 -- What the steps of the constraint walkers add up to, with premises in the form in which the code's steps give them.
+use Rattle.std.specs.Prelude.{Ok, Err}
 use mathlib.Core.Path.{◌≡◌, refl, sym, ap, ◌∙◌}
 use mathlib.Core.Bool.{Bool, true, false, cond}
 use mathlib.Core.List.{List, [], ◌∷◌, ◌++◌}
@@ -8,68 +9,63 @@ use native.Mathlib.Omega.{arith}
 use lib.ListN.{length}
 use Rattle.task.specs.declared.Fault.{Fault}
 use Rattle.task.specs.declared.Fault.TheVariants.{Sound}
-use Rattle.task.specs.declared.Number.{Number}
-use Rattle.task.specs.declared.Number.TheVariants as number_is
-use Rattle.task.specs.declared.Span.{Span}
-use Rattle.task.specs.declared.SpanRead.{SpanRead}
-use Rattle.task.specs.declared.SpanRead.TheVariants as span_is
 use Rattle.task.specs.declared.ConstraintNode.{ConstraintNode}
 use Rattle.task.specs.declared.ConstraintNode.TheVariants as constraint_node
 use Rattle.task.specs.Ast.{Sort, Binder, Pred, Constraint, Constraints}
 use Rattle.task.specs.Decode.{Res, got, refuse, bind, give, ◌▹◌, number, many, counted, name, binder, dec_sort, dec_pred, constraint_forms, dec_constraint}
 use Rattle.task.specs.Fault.{lower, each, name_fault, sort_fault, binder_fault, pred_fault, shadow_fault, constraint_fault, constraints_fault}
 use Rattle.task.specs.Task.{pred_heads, heads_of, heads_in}
-use Rattle.task.specs.Node.{number_of, bytes_of, span_of, constraint_of, ConstraintAt}
+use Rattle.task.specs.declared.Refusal.{Refusal}
+use Rattle.task.specs.Node.{number_of, constraint_of, ConstraintAt}
 use Rattle.task.proofs.Reading.{coded_at, bind_got, same_value}
-use Rattle.task.proofs.Judging.{lower_assoc, lower_comm, sound_lower}
+use Rattle.task.proofs.Judging.{lower_assoc, lower_comm, lower_sound, sound_lower}
 use Rattle.task.proofs.Nodes.{constraint_at}
 use Rattle.task.proofs.Pieces.{each_covers}
-use Rattle.task_check.specs.declared.Walked.{Walked}
-use Rattle.task_check.specs.declared.Walked.TheVariants as walked_is
 use Rattle.task_check.specs.Walk.{walked, after, read_true}
-use Rattle.task_check.proofs.Rows.{after_sound, Fold, Nexts, next_is, refused_is, row_goes, row_stops, row_ends}
+use Rattle.task_check.proofs.Rows.{next_is, refused_is}
 use Rattle.task_check.proofs.Exprs.{stops as walk_stops, goes as walk_goes, lasts as walk_lasts}
 use Rattle.constraint_check.specs.declared.Counted.{Counted}
-use Rattle.constraint_check.specs.Tally.{answer, found, tally}
+use Rattle.constraint_check.specs.Tally.{tally}
 use Rattle.constraint_check.specs.Around.{names_on, is_head, Header, header_fault, header, for_all}
 use Rattle.constraint_check.proofs.Names.{names_append, head_stands}
 
 -- an answer part by part
-pub parts : {w w' : Walked} {n n' : ℕ} → w ≡ w' → n ≡ n' → answer w n ≡ answer w' n'
-parts p q = λ i. record { walked = p i; heads = q i }
+counts : {f f' : Fault} {n n' p p' : ℕ} → f ≡ f' → n ≡ n' → p ≡ p'
+    → ◌≡◌ {A = Res Counted} (got (record { fault = f; heads = n }) p) (got (record { fault = f'; heads = n' }) p')
+counts a b c = λ i. got (record { fault = a i; heads = b i }) (c i)
 
-module _ {A B : Type 0} (one : A → Fault) (whole : B → Fault) (number : B → ℕ) (x : Res A) (k : A → ℕ → Res B) (v : Walked) where
-  -- a piece that is refused, and a piece with what follows it
-  pub stops : (j : ℕ) → v ≡ walked one x → v ≡ walked_is.Refused j → answer v 0 ≡ tally whole number (bind x k)
-  stops j e e' =
-      parts e' refl ∙ sym (ap (λ (y : Res A). tally whole number (bind y k)) (refused_is one x j (sym e' ∙ e)))
+-- what an answer tells of the decoder's
+record Tells {A : Type 0} (one : A → Fault) (number : A → ℕ) (x : Res A) (c : Counted) (q : ℕ) : Type 0 where
+  value : A
+  is : x ≡ got value q
+  fault : c.fault ≡ one value
+  heads : c.heads ≡ number value
 
-  pub goes : (q : ℕ) (g : Fault) (c : Counted) → v ≡ walked one x → v ≡ walked_is.Next g q
-      → ((a : A) → x ≡ got a q → one a ≡ g → c ≡ tally whole number (k a q)) → c ≡ tally whole number (bind x k)
-  goes q g c e e' h =
-      let y = next_is one x q g (sym e' ∙ e) in
-      h y.value y.is y.fault ∙ sym (ap (λ (z : Res A). tally whole number (bind z k)) y.is)
+tells : {A : Type 0} (one : A → Fault) (number : A → ℕ) (x : Res A) (c : Counted) (q : ℕ) → got c q ≡ tally one number x → Tells one number x c q
+tells one number (got a p) c q e =
+    let d : c ≡ record { fault = one a; heads = number a } = same_value e in
+    record { value = a; is = ap (got a) (cc); fault = ap (λ (y : Counted). y.fault) d; heads = ap (λ (y : Counted). y.heads) d }
+tells one number (refuse k) c q e = absurd (let z : ◌≡◌ {A = ℕ} 0 1 = cc in omega arith)
 
--- the last piece
-pub ends : {A B : Type 0} (one : A → Fault) (count : A → ℕ) (whole : B → Fault) (number : B → ℕ) (x : Res A) (k : A → B) (f : Fault)
-    → ((a : A) → whole (k a) ≡ lower f (one a)) → ((a : A) → number (k a) ≡ count a)
-    → answer (after f (walked one x)) (found count x) ≡ tally whole number (bind x (λ a q. got (k a) q))
-ends one count whole number (got a q) k f h g = parts (ap (λ (z : Fault). walked_is.Next z q) (sym (h a))) (sym (g a))
-ends one count whole number (refuse j) k f h g = refl
+none_told : {A : Type 0} (one : A → Fault) (number : A → ℕ) (x : Res A) (k : ℕ) → refuse k ≡ tally one number x → x ≡ refuse k
+none_told one number (got a p) k e = absurd (let z : ◌≡◌ {A = ℕ} 0 1 = cc in omega arith)
+none_told one number (refuse j) k e = ap refuse (cc)
 
 -- a head
-module _ (x : Res Pred) (v : Walked) (e : v ≡ walked pred_fault x) where
-  pub head_refused : (j : ℕ) → v ≡ walked_is.Refused j → answer (walked_is.Refused j) 0 ≡ tally pred_fault pred_heads x
-  head_refused j e' = sym (ap (tally pred_fault pred_heads) (refused_is pred_fault x j (sym e' ∙ e)))
+pub head_read : (l : ℕ) (s : List ℕ) (at p : ℕ) (f : Fault) (n : ℕ) → got f p ≡ walked pred_fault (dec_pred l s at) → n ≡ cond (read_true (dec_pred l s at)) 0 1
+    → got (record { fault = f; heads = n }) p ≡ tally pred_fault pred_heads (dec_pred l s at)
+unfolding pred_heads
+head_read l s at p f n e u = by_answer (dec_pred l s at) e u
+  where
+    by_answer : (x : Res Pred) → got f p ≡ walked pred_fault x → n ≡ cond (read_true x) 0 1 → got (record { fault = f; heads = n }) p ≡ tally pred_fault pred_heads x
+    by_answer (got a q) e u = counts (cc) u (cc)
+    by_answer (refuse j) e u = absurd (let z : ◌≡◌ {A = ℕ} 0 1 = cc in omega arith)
 
-  pub head_read : (q : ℕ) (f : Fault) (n : ℕ) → v ≡ walked_is.Next f q → n ≡ cond (read_true x) 0 1 → answer (walked_is.Next f q) n ≡ tally pred_fault pred_heads x
-  unfolding pred_heads
-  head_read q f n e' u =
-      let y = next_is pred_fault x q f (sym e' ∙ e) in
-      parts (sym e' ∙ e) (u ∙ ap (λ (z : Res Pred). cond (read_true z) 0 1) y.is ∙ sym (ap (found pred_heads) y.is))
+pub head_refused : (l : ℕ) (s : List ℕ) (at k : ℕ) → refuse k ≡ walked pred_fault (dec_pred l s at) → refuse k ≡ tally pred_fault pred_heads (dec_pred l s at)
+head_refused l s at k e = sym (ap (tally pred_fault pred_heads) (refused_is pred_fault (dec_pred l s at) k e))
 
 -- the node of a head is known from its code
-pub head_node : (l : ℕ) (s : List ℕ) (at : ℕ) (b : Bool) → b ≡ is_head l s at → b ≡ true → (l ≡ 0 → ⊥) × ConstraintAt s at (constraint_node.Pred (at + 1))
+pub head_node : (l : ℕ) (s : List ℕ) (at : ℕ) (b : Bool) → b ≡ is_head l s at → b ≡ true → (l ≡ 0 → ⊥) × ConstraintAt s at (Ok (constraint_node.Pred, at + 1))
 unfolding constraint_of
 head_node l s at b e t =
     let h = head_stands l s at b e t in
@@ -78,68 +74,74 @@ head_node l s at b e t =
 
 -- a constraint by its node
 module _ (l : ℕ) (s : List ℕ) (at : ℕ) (around : List (List ℕ)) where
-  pub constraint_none : l ≡ 0 → answer (walked_is.Refused 3) 0 ≡ tally (constraint_fault around) heads_of (dec_constraint l s at)
+  pub constraint_none : l ≡ 0 → refuse 3 ≡ tally (constraint_fault around) heads_of (dec_constraint l s at)
   unfolding dec_constraint
   constraint_none e = rw e
 
-  module _ (node : ConstraintNode) (z : l ≡ 0 → ⊥) (h : ConstraintAt s at node) where
-    pub constraint_pred : (p : ℕ) (c : Counted) → node ≡ constraint_node.Pred p → c ≡ tally pred_fault pred_heads (dec_pred (l - 1) s p)
-        → c ≡ tally (constraint_fault around) heads_of (dec_constraint l s at)
-    unfolding constraint_of constraint_fault heads_of
-    constraint_pred p c e u =
-        rw (constraint_at l s at node (constraint_node.Pred p) z h e)
-        (u ∙ parts (sym (after_sound (walked pred_fault (dec_pred (l - 1) s p)))) refl
-        ∙ ends pred_fault pred_heads (constraint_fault around) heads_of (dec_pred (l - 1) s p) Constraint.pred Sound (λ a. sym (sound_lower (pred_fault a))) (λ a. refl))
+  pred_made : (x : Res Pred) → tally pred_fault pred_heads x ≡ tally (constraint_fault around) heads_of (bind x (λ h q. got (Constraint.pred h) q))
+  unfolding constraint_fault heads_of
+  pred_made (got a q) = refl
+  pred_made (refuse k) = refl
 
-    pub constraint_conj : (n p : ℕ) (c : Counted) → node ≡ constraint_node.Conj n p
-        → c ≡ tally (constraints_fault around) heads_in (many Constraints.none Constraints.more (dec_constraint (l - 1)) n s p)
-        → c ≡ tally (constraint_fault around) heads_of (dec_constraint l s at)
-    unfolding constraint_of constraint_fault constraints_fault heads_of heads_in
-    constraint_conj n p c e u =
-        let x = many Constraints.none Constraints.more (dec_constraint (l - 1)) n s p in
-        rw (constraint_at l s at node (constraint_node.Conj n p) z h e)
-        (u ∙ parts (sym (after_sound (walked (constraints_fault around) x))) refl
-        ∙ ends (constraints_fault around) heads_in (constraint_fault around) heads_of x Constraint.conj Sound (λ a. sym (sound_lower (constraints_fault around a))) (λ a. refl))
+  conj_made : (x : Res Constraints) → tally (constraints_fault around) heads_in x ≡ tally (constraint_fault around) heads_of (bind x (λ cs q. got (Constraint.conj cs) q))
+  unfolding constraint_fault constraints_fault heads_of heads_in
+  conj_made (got a q) = refl
+  conj_made (refuse k) = refl
 
-    pub constraint_for_all : (p : ℕ) (c : Counted) → node ≡ constraint_node.ForAll p → c ≡ tally (constraint_fault around) heads_of (for_all (l - 1) s p)
-        → c ≡ tally (constraint_fault around) heads_of (dec_constraint l s at)
+  module _ (z : l ≡ 0 → ⊥) where
+    pub constraint_refused : (r : Refusal) → ConstraintAt s at (Err r) → refuse (number_of r) ≡ tally (constraint_fault around) heads_of (dec_constraint l s at)
     unfolding constraint_of
-    constraint_for_all p c e u = rw (constraint_at l s at node (constraint_node.ForAll p) z h e) u
+    constraint_refused r h = ap (tally (constraint_fault around) heads_of) (sym (constraint_at l s at (Err r) (Err r) z h refl))
 
-    pub constraint_refused : (c : Counted) → node ≡ constraint_node.Refused → c ≡ answer (walked_is.Refused 2) 0
-        → c ≡ tally (constraint_fault around) heads_of (dec_constraint l s at)
-    unfolding constraint_of
-    constraint_refused c e u = rw (constraint_at l s at node constraint_node.Refused z h e) u
+    module _ (node : ConstraintNode) (p : ℕ) (h : ConstraintAt s at (Ok (node, p))) where
+      by_node : (k : ConstraintNode) → node ≡ k → dec_constraint l s at ≡ constraint_of s (l - 1) (dec_constraint (l - 1)) (Ok (k, p))
+      by_node k e = constraint_at l s at (Ok (node, p)) (Ok (k, p)) z h (rw e)
 
-  -- a member that is a head
-  pub constraint_head : (b : Bool) (c : Counted) → b ≡ is_head l s at → b ≡ true → c ≡ tally pred_fault pred_heads (dec_pred (l - 1) s (at + 1))
-      → c ≡ tally (constraint_fault around) heads_of (dec_constraint l s at)
-  constraint_head b c e t u = let h = head_node l s at b e t in constraint_pred (constraint_node.Pred (at + 1)) h.0 h.1 (at + 1) c refl u
+      pub constraint_pred : (c : Res Counted) → node ≡ constraint_node.Pred → c ≡ tally pred_fault pred_heads (dec_pred (l - 1) s p)
+          → c ≡ tally (constraint_fault around) heads_of (dec_constraint l s at)
+      unfolding constraint_of
+      constraint_pred c e u = rw (by_node constraint_node.Pred e) (u ∙ pred_made (dec_pred (l - 1) s p))
 
--- a header: refused in its binder, its count or its predicates, or walked to its end
-module _ (l : ℕ) (s : List ℕ) (at : ℕ) (v : Walked) (u : v ≡ walked binder_fault (binder l s at)) where
+      pub constraint_conj : (n : ℕ) (c : Res Counted) → node ≡ constraint_node.Conj n
+          → c ≡ tally (constraints_fault around) heads_in (many Constraints.none Constraints.more (dec_constraint (l - 1)) n s p)
+          → c ≡ tally (constraint_fault around) heads_of (dec_constraint l s at)
+      unfolding constraint_of
+      constraint_conj n c e u = rw (by_node (constraint_node.Conj n) e) (u ∙ conj_made (many Constraints.none Constraints.more (dec_constraint (l - 1)) n s p))
+
+      pub constraint_for_all : (c : Res Counted) → node ≡ constraint_node.ForAll → c ≡ tally (constraint_fault around) heads_of (for_all (l - 1) s p)
+          → c ≡ tally (constraint_fault around) heads_of (dec_constraint l s at)
+      unfolding constraint_of
+      constraint_for_all c e u = rw (by_node constraint_node.ForAll e) u
+
+-- a head by its test
+pub constraint_head : (l : ℕ) (s : List ℕ) (at : ℕ) (around : List (List ℕ)) (c : Res Counted) (b : Bool) → b ≡ is_head l s at → b ≡ true
+    → c ≡ tally pred_fault pred_heads (dec_pred (l - 1) s (at + 1)) → c ≡ tally (constraint_fault around) heads_of (dec_constraint l s at)
+constraint_head l s at around c b e t u = let h = head_node l s at b e t in constraint_pred l s at around h.0 constraint_node.Pred (at + 1) h.1 c refl u
+
+-- a header: refused in its binder or in its count, or walked to its end
+module _ (l : ℕ) (s : List ℕ) (at : ℕ) where
   -- what follows the binder
   behind : Binder → ℕ → Res Header
   behind b p = (counted [] ◌∷◌ (dec_pred l) ▹ λ ps. give (record { binder = b; preds = ps })) s p
 
-  pub header_stops : (j : ℕ) → v ≡ walked_is.Refused j → v ≡ walked header_fault (header l s at)
+  pub header_stops : (j : ℕ) → refuse j ≡ walked binder_fault (binder l s at) → refuse j ≡ walked header_fault (header l s at)
   unfolding behind
-  header_stops j u' = walk_stops binder_fault header_fault (binder l s at) behind v j u u'
+  header_stops j u = walk_stops binder_fault header_fault (binder l s at) behind j u
 
-  module _ (p : ℕ) (f : Fault) (u' : v ≡ walked_is.Next f p) (k : Number) (i : number 2 s p ≡ number_of k) where
-    from_binder : (w : Walked) → ((b : Binder) → binder_fault b ≡ f → w ≡ walked header_fault (behind b p)) → w ≡ walked header_fault (header l s at)
+  module _ (f : Fault) (p : ℕ) (u : got f p ≡ walked binder_fault (binder l s at)) where
+    from_binder : (w : Res Fault) → ((b : Binder) → binder_fault b ≡ f → w ≡ walked header_fault (behind b p)) → w ≡ walked header_fault (header l s at)
     unfolding behind
-    from_binder w h = walk_goes binder_fault header_fault (binder l s at) behind v p f w u u' (λ b z g. h b g)
+    from_binder w h = walk_goes binder_fault header_fault (binder l s at) behind p f w u (λ b z g. h b g)
 
-    pub header_uncounted : k ≡ number_is.Refused → walked_is.Refused 2 ≡ walked header_fault (header l s at)
+    pub header_uncounted : (j : ℕ) → number 2 s p ≡ refuse j → refuse j ≡ walked header_fault (header l s at)
     unfolding behind
-    header_uncounted i' = from_binder (walked_is.Refused 2) (λ b g. rw (i, i'))
+    header_uncounted j i = from_binder (refuse j) (λ b g. rw i)
 
-    pub header_walks : (n q : ℕ) (v' w : Walked) → k ≡ number_is.Value n q → v' ≡ walked (each pred_fault) (many [] ◌∷◌ (dec_pred l) n s q) → w ≡ after f v'
+    pub header_walks : (n q : ℕ) (v w : Res Fault) → number 2 s p ≡ got n q → v ≡ walked (each pred_fault) (many [] ◌∷◌ (dec_pred l) n s q) → w ≡ after f v
         → w ≡ walked header_fault (header l s at)
     unfolding behind
-    header_walks n q v' w i' m a =
-        from_binder w (λ b g. rw (i, i')
+    header_walks n q v w i m a =
+        from_binder w (λ b g. rw i
         (a ∙ ap (after f) m
         ∙ walk_lasts (each pred_fault) header_fault (many [] ◌∷◌ (dec_pred l) n s q) (λ ps. record { binder = b; preds = ps }) f (λ ps. rw g)))
 
@@ -180,98 +182,106 @@ header_named l s at h t x p e e' =
     let c : record { name = j.value; sort = k.value } ≡ i.value = same_value k.then in
     sym (ap (λ (g : Header). g.binder.name) d) ∙ sym (ap (λ (b : Binder). b.name) c) ∙ same_value (sym j.first ∙ e')
 
--- a ForAll: refused in its name or its header, or walked to its end
-module _ (l : ℕ) (s offsets : List ℕ) (at : ℕ) (x : SpanRead) (e : name s at ≡ span_of s x) where
-  pub for_all_unnamed : (c : Counted) → x ≡ span_is.Refused → c ≡ answer (walked_is.Refused 2) 0 → c ≡ tally (constraint_fault (names_on s offsets)) heads_of (for_all l s at)
-  for_all_unnamed c e' u = rw (e, e') u
+-- a ForAll: refused in its name, its header or its body, or walked to its end
+module _ (l : ℕ) (s offsets : List ℕ) (at : ℕ) where
+  pub for_all_unnamed : (k : ℕ) → name s at ≡ refuse k → refuse k ≡ tally (constraint_fault (names_on s offsets)) heads_of (for_all l s at)
+  for_all_unnamed k e = rw e
 
-  module _ (y : Span) (p : ℕ) (e' : x ≡ span_is.At y p) (v : Walked) (u : v ≡ walked header_fault (header l s at)) where
-    from_header : (c : Counted) → c ≡ tally (constraint_fault (names_on s offsets)) heads_of (bind (header l s at) (under l s)) → c ≡ tally (constraint_fault (names_on s offsets)) heads_of (for_all l s at)
-    from_header c w = w ∙ sym (ap (tally (constraint_fault (names_on s offsets)) heads_of) (for_all_is l s at))
+  from_header : (c : Res Counted) → c ≡ tally (constraint_fault (names_on s offsets)) heads_of (bind (header l s at) (under l s)) → c ≡ tally (constraint_fault (names_on s offsets)) heads_of (for_all l s at)
+  from_header c w = w ∙ sym (ap (tally (constraint_fault (names_on s offsets)) heads_of) (for_all_is l s at))
 
-    pub for_all_stops : (j : ℕ) → v ≡ walked_is.Refused j → answer v 0 ≡ tally (constraint_fault (names_on s offsets)) heads_of (for_all l s at)
-    for_all_stops j u' = from_header (answer v 0) (stops header_fault (constraint_fault (names_on s offsets)) heads_of (header l s at) (under l s) v j u u')
+  pub for_all_stops : (j : ℕ) → refuse j ≡ walked header_fault (header l s at) → refuse j ≡ tally (constraint_fault (names_on s offsets)) heads_of (for_all l s at)
+  for_all_stops j u =
+      from_header (refuse j) (sym (ap (λ (y : Res Header). tally (constraint_fault (names_on s offsets)) heads_of (bind y (under l s))) (refused_is header_fault (header l s at) j u)))
 
-    pub for_all_walks : (t : ℕ) (f : Fault) (offsets' : List ℕ) (c : Counted) (fs fb : Fault) (w : Walked) → v ≡ walked_is.Next f t
-        → offsets' ≡ offsets ++ at ∷ [] → c ≡ tally (constraint_fault (names_on s offsets')) heads_of (dec_constraint l s t)
-        → fs ≡ shadow_fault (names_on s offsets) (bytes_of s y) → fb ≡ lower f fs → w ≡ after fb c.walked
-        → answer w c.heads ≡ tally (constraint_fault (names_on s offsets)) heads_of (for_all l s at)
+  module _ (t : ℕ) (f : Fault) (u : got f t ≡ walked header_fault (header l s at)) where
+    by_header : (c : Res Counted) → ((h : Header) → header l s at ≡ got h t → header_fault h ≡ f → c ≡ tally (constraint_fault (names_on s offsets)) heads_of (under l s h t))
+        → c ≡ tally (constraint_fault (names_on s offsets)) heads_of (for_all l s at)
+    by_header c g =
+        let y = next_is header_fault (header l s at) t f u in
+        from_header c (g y.value y.is y.fault ∙ sym (ap (λ (z : Res Header). tally (constraint_fault (names_on s offsets)) heads_of (bind z (under l s))) y.is))
+
+    pub for_all_body_stops : (around : List (List ℕ)) (j : ℕ) → refuse j ≡ tally (constraint_fault around) heads_of (dec_constraint l s t)
+        → refuse j ≡ tally (constraint_fault (names_on s offsets)) heads_of (for_all l s at)
+    for_all_body_stops around j e =
+        by_header (refuse j) (λ h z g. sym (ap (λ (y : Res Constraint). tally (constraint_fault (names_on s offsets)) heads_of (bind y (λ c q. got (Constraint.for_all h.binder.name h.binder.sort h.preds c) q)))
+        (none_told (constraint_fault around) heads_of (dec_constraint l s t) j e)))
+
+    pub for_all_walks : (x : List ℕ) (p : ℕ) → name s at ≡ got x p → (offsets' : List ℕ) (body : Counted) (q : ℕ) (fs fb fw : Fault) → offsets' ≡ offsets ++ at ∷ []
+        → got body q ≡ tally (constraint_fault (names_on s offsets')) heads_of (dec_constraint l s t)
+        → fs ≡ shadow_fault (names_on s offsets) x → fb ≡ lower f fs → fw ≡ lower fb body.fault
+        → got (record { fault = fw; heads = body.heads }) q ≡ tally (constraint_fault (names_on s offsets)) heads_of (for_all l s at)
     unfolding constraint_fault heads_of binder_fault
-    for_all_walks t f offsets' c fs fb w u' o d sf a a' =
-        let own : name s at ≡ got (bytes_of s y) p = e ∙ ap (span_of s) e' in
-        let names : names_on s offsets' ≡ names_on s offsets ++ bytes_of s y ∷ [] = ap (names_on s) o ∙ names_append s offsets at (bytes_of s y) p own in
-        let inner = constraint_fault (names_on s offsets ++ bytes_of s y ∷ []) in
-        let d' : c ≡ tally inner heads_of (dec_constraint l s t) = d ∙ ap (λ (xs : List (List ℕ)). tally (constraint_fault xs) heads_of (dec_constraint l s t)) names in
-        from_header (answer w c.heads) (
-        goes header_fault (constraint_fault (names_on s offsets)) heads_of (header l s at) (under l s) v t f (answer w c.heads) u u' (λ h z g.
-        let n : h.binder.name ≡ bytes_of s y = header_named l s at h t (bytes_of s y) p z own in
-        parts (a' ∙ ap (λ (q : Counted). after fb q.walked) d') (ap (λ (q : Counted). q.heads) d')
-        ∙ ends inner heads_of (constraint_fault (names_on s offsets)) heads_of (dec_constraint l s t) (Constraint.for_all h.binder.name h.binder.sort h.preds) fb
-        (λ c'. rw (a, sf, ← g, n) (regroup (name_fault (bytes_of s y)) (shadow_fault (names_on s offsets) (bytes_of s y)) (sort_fault false h.binder.sort) (each pred_fault h.preds) (inner c')))
-        (λ c'. refl)))
+    for_all_walks x p own offsets' body q fs fb fw o d sf a a' =
+        let names : names_on s offsets' ≡ names_on s offsets ++ x ∷ [] = ap (names_on s) o ∙ names_append s offsets at x p own in
+        let inner = constraint_fault (names_on s offsets ++ x ∷ []) in
+        let b = tells inner heads_of (dec_constraint l s t) body q (d ∙ ap (λ (xs : List (List ℕ)). tally (constraint_fault xs) heads_of (dec_constraint l s t)) names) in
+        by_header (got (record { fault = fw; heads = body.heads }) q) (λ h z g.
+        let n : h.binder.name ≡ x = header_named l s at h t x p z own in
+        counts
+        (a' ∙ ap (lower fb) b.fault ∙ rw (a, sf, ← g, n) (regroup (name_fault x) (shadow_fault (names_on s offsets) x) (sort_fault false h.binder.sort) (each pred_fault h.preds) (inner b.value)))
+        b.heads
+        refl
+        ∙ sym (ap (λ (y : Res Constraint). tally (constraint_fault (names_on s offsets)) heads_of (bind y (λ c r. got (Constraint.for_all h.binder.name h.binder.sort h.preds c) r))) b.is))
       where
         -- the fault of a repeat comes behind those of sort and predicates as well as before them
-        regroup : (f1 f2 f3 f4 f5 : Fault) → lower f1 (lower f2 (lower f3 (lower f4 f5))) ≡ lower (lower (lower (lower f1 f3) f4) f2) f5
+        regroup : (f1 f2 f3 f4 f5 : Fault) → lower (lower (lower (lower f1 f3) f4) f2) f5 ≡ lower f1 (lower f2 (lower f3 (lower f4 f5)))
         regroup f1 f2 f3 f4 f5 =
+            sym (
             ap (lower f1) (ap (lower f2) (sym (lower_assoc f3 f4 f5)) ∙ sym (lower_assoc f2 (lower f3 f4) f5) ∙ ap (λ (g : Fault). lower g f5) (lower_comm f2 (lower f3 f4)) ∙ lower_assoc (lower f3 f4) f2 f5)
             ∙ sym (lower_assoc f1 (lower f3 f4) (lower f2 f5)) ∙ sym (lower_assoc (lower f1 (lower f3 f4)) f2 f5)
-            ∙ ap (λ (g : Fault). lower (lower g f2) f5) (sym (lower_assoc f1 f3 f4))
+            ∙ ap (λ (g : Fault). lower (lower g f2) f5) (sym (lower_assoc f1 f3 f4)))
 
-pub members_fold : (around : List (List ℕ)) → Fold Constraints.none Constraints.more (constraint_fault around) (constraints_fault around)
-unfolding constraint_fault constraints_fault
-members_fold around = record { none = refl; step = λ c cs. refl }
+-- an answer with what was counted before
+abbrev put : Fault → ℕ → Res Counted → Res Counted
+put f h (got c p) = got (record { fault = lower f c.fault; heads = h + c.heads }) p
+put f h (refuse k) = refuse k
 
--- heads counted before those of the members that are left
-abbrev added : ℕ → Res Constraints → ℕ
-added t (got cs p) = t + heads_in cs
-added t (refuse k) = 0
+put_none : (w : Res Counted) → put Sound 0 w ≡ w
+put_none (got c p) = counts (sound_lower c.fault) (zero-add c.heads) refl
+put_none (refuse k) = refl
 
--- the loop: of n members from at on those from p on are left; f is the fault and h the number of heads so far
+put_put : (f g : Fault) (h n : ℕ) (w : Res Counted) → put (lower f g) (h + n) w ≡ put f h (put g n w)
+put_put f g h n (got c p) = counts (lower_assoc f g c.fault) (add_assoc h n c.heads) refl
+put_put f g h n (refuse k) = refl
+
+-- the loop: of n members i were walked, the others stand from p on; f is the fault and h the number of heads so far
 module _ (s : List ℕ) (l : ℕ) (around : List (List ℕ)) where
-  pub record Going (n at left p : ℕ) (f : Fault) (h : ℕ) : Type 0 where
-    pub fault : after f (walked (constraints_fault around) (many Constraints.none Constraints.more (dec_constraint l) left s p)) ≡ walked (constraints_fault around) (many Constraints.none Constraints.more (dec_constraint l) n s at)
-    pub heads : added h (many Constraints.none Constraints.more (dec_constraint l) left s p) ≡ found heads_in (many Constraints.none Constraints.more (dec_constraint l) n s at)
+  pub record Going (n at i p : ℕ) (f : Fault) (h : ℕ) : Type 0 where
+    pub are : put f h (tally (constraints_fault around) heads_in (many Constraints.none Constraints.more (dec_constraint l) (n - i) s p))
+        ≡ tally (constraints_fault around) heads_in (many Constraints.none Constraints.more (dec_constraint l) n s at)
     pub few : h ≤ p
 
-  pub going_starts : (n at : ℕ) → Going n at n at Sound 0
-  going_starts n at = record { fault = after_sound (walked (constraints_fault around) x); heads = none x; few = omega arith }
-    where
-      x : Res Constraints
-      x = many Constraints.none Constraints.more (dec_constraint l) n s at
-
-      none : (y : Res Constraints) → added 0 y ≡ found heads_in y
-      none (got cs p) = zero-add (heads_in cs)
-      none (refuse k) = refl
+  pub going_starts : (n at : ℕ) → Going n at 0 at Sound 0
+  going_starts n at =
+      let e : n - 0 ≡ n = omega arith in
+      record { are = rw e (put_none (tally (constraints_fault around) heads_in (many Constraints.none Constraints.more (dec_constraint l) n s at))); few = omega arith }
 
   -- one more member
-  add_member : (h : ℕ) (c : Constraint) (y : Res Constraints) → added h (bind y (λ cs q. got (Constraints.more c cs) q)) ≡ added (h + heads_of c) y
-  unfolding heads_of heads_in
-  add_member h c (got cs q) = sym (add_assoc h (heads_of c) (heads_in cs))
-  add_member h c (refuse k) = refl
+  put_before : (a : Constraint) (x : Res Constraints) → tally (constraints_fault around) heads_in (bind x (λ b q. got (Constraints.more a b) q))
+      ≡ put (constraint_fault around a) (heads_of a) (tally (constraints_fault around) heads_in x)
+  unfolding constraint_fault constraints_fault heads_of heads_in
+  put_before a (got b q) = refl
+  put_before a (refuse k) = refl
 
-  module _ (n at left p : ℕ) (f : Fault) (h : ℕ) (i : Going n at left p f h) where
-    module _ (z : 0 < left) (c : Counted) (e : c ≡ tally (constraint_fault around) heads_of (dec_constraint l s p)) (v : Walked) (d : v ≡ c.walked) where
-      as_walked : v ≡ walked (constraint_fault around) (dec_constraint l s p)
-      as_walked = d ∙ ap (λ (y : Counted). y.walked) e
+  row_first : (n p : ℕ) (x : Res Constraint) → dec_constraint l s p ≡ x
+      → tally (constraints_fault around) heads_in (many Constraints.none Constraints.more (dec_constraint l) (suc n) s p)
+      ≡ tally (constraints_fault around) heads_in (bind x (λ a q. bind (many Constraints.none Constraints.more (dec_constraint l) n s q) (λ b r. got (Constraints.more a b) r)))
+  row_first n p x e = rw e
 
-      pub going_stops : (j : ℕ) → v ≡ walked_is.Refused j
-          → answer (walked_is.Refused j) 0 ≡ tally (constraints_fault around) heads_in (many Constraints.none Constraints.more (dec_constraint l) n s at)
-      going_stops j e' =
-          parts (sym e' ∙ row_stops (members_fold around) (dec_constraint l) s left p f (walked (constraints_fault around) (many Constraints.none Constraints.more (dec_constraint l) n s at)) v j z as_walked e' i.fault)
-          (sym (ap (added h) refused) ∙ i.heads)
-        where
-          refused : many Constraints.none Constraints.more (dec_constraint l) left s p ≡ refuse j
-          refused =
-              let m : left ≡ suc (left - 1) = omega arith in
-              ap (λ (k : ℕ). many Constraints.none Constraints.more (dec_constraint l) k s p) m
-              ∙ ap (λ (y : Res Constraint). bind y (λ a q. bind (many Constraints.none Constraints.more (dec_constraint l) (left - 1) s q) (λ b r. got (Constraints.more a b) r))) (refused_is (constraint_fault around) (dec_constraint l s p) j (sym e' ∙ as_walked))
+  module _ (n at i p : ℕ) (f : Fault) (h : ℕ) (g : Going n at i p f h) where
+    module _ (z : i < n) where
+      pub going_stops : (k : ℕ) → refuse k ≡ tally (constraint_fault around) heads_of (dec_constraint l s p)
+          → refuse k ≡ tally (constraints_fault around) heads_in (many Constraints.none Constraints.more (dec_constraint l) n s at)
+      going_stops k e =
+          let m : n - i ≡ suc (n - (i + 1)) = omega arith in
+          sym (ap (put f h) (ap (λ (j : ℕ). tally (constraints_fault around) heads_in (many Constraints.none Constraints.more (dec_constraint l) j s p)) m
+          ∙ row_first (n - (i + 1)) p (refuse k) (none_told (constraint_fault around) heads_of (dec_constraint l s p) k e)))
+          ∙ g.are
 
-      module _ (q : ℕ) (g : Fault) (e' : v ≡ walked_is.Next g q) where
-        one : Nexts (constraint_fault around) (dec_constraint l s p) q g
-        one = next_is (constraint_fault around) (dec_constraint l s p) q g (sym e' ∙ as_walked)
-
-        one_heads : c.heads ≡ heads_of one.value
-        one_heads = ap (λ (y : Counted). y.heads) e ∙ ap (found heads_of) one.is
+      module _ (c : Counted) (q : ℕ) (e : got c q ≡ tally (constraint_fault around) heads_of (dec_constraint l s p)) where
+        one : Tells (constraint_fault around) heads_of (dec_constraint l s p) c q
+        one = tells (constraint_fault around) heads_of (dec_constraint l s p) c q e
 
         -- heads take bytes
         pub going_room : (h + c.heads ≤ q) × (q ≤ length s)
@@ -282,26 +292,31 @@ module _ (s : List ℕ) (l : ℕ) (around : List (List ℕ)) where
             let b = y'.end in
             let r = y.room in
             let r' = y'.room in
-            let o = one_heads in
-            let w = i.few in
+            let o = one.heads in
+            let w = g.few in
             (omega arith, y'.inside (omega arith))
 
-        pub going_goes : (f' : Fault) → f' ≡ lower f g → Going n at (left - 1) q f' (h + c.heads)
+        pub going_goes : (f' : Fault) → f' ≡ lower f c.fault → Going n at (i + 1) q f' (h + c.heads)
         going_goes f' u = record {
-          fault = row_goes (members_fold around) (dec_constraint l) s left p f (walked (constraints_fault around) (many Constraints.none Constraints.more (dec_constraint l) n s at)) v q g f' z as_walked e' u i.fault;
-          heads = sym (step ∙ ap (λ (k : ℕ). added (h + k) (many Constraints.none Constraints.more (dec_constraint l) (left - 1) s q)) (sym one_heads)) ∙ i.heads;
+          are = ap (λ (k : Fault). put k (h + c.heads) rest) (u ∙ ap (lower f) one.fault) ∙ ap (λ (k : ℕ). put (lower f (constraint_fault around one.value)) (h + k) rest) one.heads
+              ∙ put_put f (constraint_fault around one.value) h (heads_of one.value) rest ∙ sym (ap (put f h) step) ∙ g.are;
           few = going_room.0;
         }
           where
-            step : added h (many Constraints.none Constraints.more (dec_constraint l) left s p) ≡ added (h + heads_of one.value) (many Constraints.none Constraints.more (dec_constraint l) (left - 1) s q)
-            step =
-                let m : left ≡ suc (left - 1) = omega arith in
-                ap (λ (k : ℕ). added h (many Constraints.none Constraints.more (dec_constraint l) k s p)) m
-                ∙ ap (λ (y : Res Constraint). added h (bind y (λ a q. bind (many Constraints.none Constraints.more (dec_constraint l) (left - 1) s q) (λ b r. got (Constraints.more a b) r)))) one.is
-                ∙ add_member h one.value (many Constraints.none Constraints.more (dec_constraint l) (left - 1) s q)
+            rest : Res Counted
+            rest = tally (constraints_fault around) heads_in (many Constraints.none Constraints.more (dec_constraint l) (n - (i + 1)) s q)
 
-    pub going_ends : left ≤ 0 → answer (walked_is.Next f p) h ≡ tally (constraints_fault around) heads_in (many Constraints.none Constraints.more (dec_constraint l) n s at)
-    unfolding heads_in
+            step : tally (constraints_fault around) heads_in (many Constraints.none Constraints.more (dec_constraint l) (n - i) s p) ≡ put (constraint_fault around one.value) (heads_of one.value) rest
+            step =
+                let m : n - i ≡ suc (n - (i + 1)) = omega arith in
+                ap (λ (j : ℕ). tally (constraints_fault around) heads_in (many Constraints.none Constraints.more (dec_constraint l) j s p)) m
+                ∙ row_first (n - (i + 1)) p (got one.value q) one.is
+                ∙ put_before one.value (many Constraints.none Constraints.more (dec_constraint l) (n - (i + 1)) s q)
+
+    pub going_ends : n ≤ i → got (record { fault = f; heads = h }) p ≡ tally (constraints_fault around) heads_in (many Constraints.none Constraints.more (dec_constraint l) n s at)
+    unfolding constraints_fault heads_in
     going_ends z =
-        parts (row_ends (members_fold around) (dec_constraint l) s left p f (walked (constraints_fault around) (many Constraints.none Constraints.more (dec_constraint l) n s at)) z i.fault)
-        (sym (ap (λ (k : ℕ). added h (many Constraints.none Constraints.more (dec_constraint l) k s p)) (let m : left ≡ 0 = omega arith in m) ∙ add-zero h) ∙ i.heads)
+        let m : n - i ≡ 0 = omega arith in
+        counts (sym (lower_sound f)) (sym (add-zero h)) refl
+        ∙ sym (ap (λ (j : ℕ). put f h (tally (constraints_fault around) heads_in (many Constraints.none Constraints.more (dec_constraint l) j s p))) m)
+        ∙ g.are

@@ -1,4 +1,6 @@
 -- What a KVar adds to a table: a name that is not there yet, and the number of its sorts. What KVars in a row add: `all_added`.
+use Rattle.std.specs.Prelude.{Option as Found, Some, None}
+use Rattle.std.specs.Option.{is_some}
 use mathlib.Core.Path.{◌≡◌, refl, sym, ap, ◌∙◌}
 use mathlib.Core.Bool.{Bool, true, false, cond, ◌||◌}
 use mathlib.Core.List.{List, [], ◌∷◌, ◌++◌, append-nil, append_assoc}
@@ -10,25 +12,17 @@ use borrow.Author.Tests.{lt-ltb, le-leb}
 use Rattle.smtlib.specs.Lexicon.{same, is_one}
 use Rattle.smtlib.proofs.Bools.{true_holds, same→eq, clash}
 use Rattle.task.specs.declared.Fault.{Fault}
-use Rattle.task.specs.declared.Span.{Span}
-use Rattle.task.specs.declared.SpanRead.{SpanRead}
-use Rattle.task.specs.declared.SpanRead.TheVariants as span_is
 use Rattle.task.specs.Ast.{Sorts, KVarDecl}
 use Rattle.task.specs.Decode.{Res, got, refuse, bind, number, counted, name, dec_sort, kvar, deepest}
 use Rattle.task.specs.Fault.{sorts_number, kvar_fault}
-use Rattle.task.specs.Node.{bytes_of, span_of}
 use Rattle.task.specs.Scope.{arity_of}
 use Rattle.task.proofs.Reading.{bind_got, got_refuse, same_value}
 use Rattle.task.proofs.Running.{Steps}
 use Rattle.task.proofs.Members.{one_append, none_first, none_second}
-use Rattle.task_check.specs.declared.Walked.{Walked}
-use Rattle.task_check.specs.declared.Walked.TheVariants as walked_is
 use Rattle.task_check.proofs.Rows.{next_is, refused_is}
 use Rattle.item_check.specs.declared.Section.TheVariants.{KVars}
 use Rattle.item_check.specs.Items.{item_walk}
 use Rattle.item_check.proofs.Walks.{many_size}
-use Rattle.names.specs.declared.Found.{Found}
-use Rattle.names.specs.declared.Found.TheVariants.{Entry, Nothing}
 use Rattle.names.specs.Table.{count_of, offset_of, Symbol, symbol, entries, last_of, fits, names_of, room_for, add}
 use Rattle.names.specs.Change.{Kept, Pushed}
 use Rattle.names.specs.Theorems.{is_found}
@@ -41,9 +35,13 @@ use Rattle.declared.proofs.Collecting.{name_added}
 
 -- SEARCHES
 
-found_none : (f : Found) → is_found f ≡ false → f ≡ Nothing
-found_none (Entry k) e = clash (cc)
-found_none Nothing e = refl
+found_some : (f : Found ℕ) → is_found f ≡ is_some f
+found_some (Some k) = refl
+found_some None = refl
+
+found_none : (f : Found ℕ) → is_found f ≡ false → f ≡ None
+found_none (Some k) e = clash (cc)
+found_none None e = refl
 
 -- a name that no KVar has
 pub arity_none : (s t x : List ℕ) → is_one x (names_of 1 1 (entries s t)) ≡ false → arity_in s t x ≡ none
@@ -52,9 +50,9 @@ arity_none s t x e = ap (size_found s t) (found_none (last_of (fits x 1 1) (entr
 
 -- the entries of t are in u at their places
 module _ (s t u : List ℕ) (kept : Kept t u) (x : List ℕ) where
-  found_kept : (f : Found) → last_of (fits x 1 1) (entries s t) ≡ f → size_found s u f ≡ size_found s t f
-  found_kept (Entry k) e = ap (size_at s) (kept.places k ((searches s t x 1 1).entry_below k e))
-  found_kept Nothing e = refl
+  found_kept : (f : Found ℕ) → last_of (fits x 1 1) (entries s t) ≡ f → size_found s u f ≡ size_found s t f
+  found_kept (Some k) e = ap (size_at s) (kept.places k ((searches s t x 1 1).entry_below k e))
+  found_kept None e = refl
 
   -- and no others
   arity_kept : entries s u ≡ entries s t → arity_in s u x ≡ arity_in s t x
@@ -72,7 +70,7 @@ module _ (s t u : List ℕ) (kept : Kept t u) (x : List ℕ) where
       ∙ ap (size_found s u) (snoc_from (fits x 1 1) 0 (entries s t) (symbol 1 w))
       ∙ go (same x w)
     where
-      go : (b : Bool) → size_found s u (cond b (Entry (0 + length (entries s t))) (last_of (fits x 1 1) (entries s t))) ≡ cond b (some n) (size_found s t (last_of (fits x 1 1) (entries s t)))
+      go : (b : Bool) → size_found s u (cond b (Some (0 + length (entries s t))) (last_of (fits x 1 1) (entries s t))) ≡ cond b (some n) (size_found s t (last_of (fits x 1 1) (entries s t)))
       go true =
           let l = entries_length s t (count_of t) in
           let c : 0 + length (entries s t) ≡ count_of t = omega arith in
@@ -123,52 +121,43 @@ module _ (s : List ℕ) (at : ℕ) (k : KVarDecl) (p : ℕ) (e : kvar s at ≡ g
 
 module _ (s t : List ℕ) (at : ℕ) (r : Ready s t) where
   -- there is none
-  kvar_refused : (q k : ℕ) → kvar s at ≡ refuse k → AddsKVar (kvar s at) s t t q
-  kvar_refused q k e = record { chained = r.chained; words = refl; runs = λ a p g. got_refuse (sym g ∙ e) }
+  pub kvar_none : (q k : ℕ) → refuse k ≡ item_walk KVars s at → AddsKVar (kvar s at) s t t q
+  unfolding item_walk
+  kvar_none q k e = record { chained = r.chained; words = refl; runs = λ a p g. got_refuse (sym g ∙ refused_is kvar_fault (kvar s at) k e) }
 
-  pub kvar_unnamed : (q : ℕ) (v : SpanRead) → name s at ≡ span_of s v → v ≡ span_is.Refused → AddsKVar (kvar s at) s t t q
-  kvar_unnamed q v h e = kvar_refused q 2 (rw (h ∙ ap (span_of s) e))
-
-  module _ (w : Walked) (g : w ≡ item_walk KVars s at) where
-    pub kvar_none : (q k : ℕ) → w ≡ walked_is.Refused k → AddsKVar (kvar s at) s t t q
+  -- there is one
+  module _ (x : List ℕ) (p : ℕ) (e : name s at ≡ got x p) (q : ℕ) (f : Fault) (g : got f q ≡ item_walk KVars s at)
+      (found : Found ℕ) (i : found ≡ last_of (fits x 1 1) (entries s t)) where
+    -- it ends where the walker ended
+    kvar_ends : (k : KVarDecl) (z : ℕ) → kvar s at ≡ got k z → q ≡ z
     unfolding item_walk
-    kvar_none q k e = kvar_refused q k (refused_is kvar_fault (kvar s at) k (sym e ∙ g))
+    kvar_ends k z u = let n = next_is kvar_fault (kvar s at) q f g in let m : got n.value q ≡ got k z = sym n.is ∙ u in cc
 
-    -- there is one
-    module _ (v : SpanRead) (h : name s at ≡ span_of s v) (x : Span) (p : ℕ) (e : v ≡ span_is.At x p) (q : ℕ) (f : Fault) (g' : w ≡ walked_is.Next f q) (y : List ℕ) (ey : y ≡ bytes_of s x)
-        (found : Found) (i : found ≡ last_of (fits y 1 1) (entries s t)) where
-      is_name : name s at ≡ got (bytes_of s x) p
-      is_name = h ∙ ap (span_of s) e
+    -- what the search tells
+    kvar_found : (k : KVarDecl) (z : ℕ) → kvar s at ≡ got k z → is_one k.kvid (names_of 1 1 (entries s t)) ≡ is_some found
+    kvar_found k z u =
+        sym (members k.kvid 1 1 (entries s t))
+        ∙ ap (λ (n : List ℕ). is_found (last_of (fits n 1 1) (entries s t))) (sym (kvar_name s at k z u x p e))
+        ∙ ap is_found (sym i)
+        ∙ found_some found
 
-      -- it ends where the walker ended
-      kvar_ends : (k : KVarDecl) (z : ℕ) → kvar s at ≡ got k z → q ≡ z
-      unfolding item_walk
-      kvar_ends k z u = let n = next_is kvar_fault (kvar s at) q f (sym g' ∙ g) in let m : got n.value q ≡ got k z = sym n.is ∙ u in cc
+    -- one with its name is there
+    pub kvar_there : is_some found ≡ true → AddsKVar (kvar s at) s t t q
+    unfolding add_kvar
+    kvar_there h = record {
+      chained = r.chained;
+      words = refl;
+      runs = λ k z u. (kvar_ends k z u, rw (kvar_found k z u ∙ h));
+    }
 
-      -- what the search tells
-      kvar_found : (k : KVarDecl) (z : ℕ) → kvar s at ≡ got k z → is_one k.kvid (names_of 1 1 (entries s t)) ≡ is_found found
-      kvar_found k z u =
-          sym (members k.kvid 1 1 (entries s t))
-          ∙ ap (λ (n : List ℕ). is_found (last_of (fits n 1 1) (entries s t))) (sym (ey ∙ kvar_name s at k z u (bytes_of s x) p is_name))
-          ∙ ap is_found (sym i)
-
-      -- one with its name is there
-      pub kvar_there : (j : ℕ) → found ≡ Entry j → AddsKVar (kvar s at) s t t q
-      unfolding add_kvar
-      kvar_there j o = record {
-        chained = r.chained;
-        words = refl;
-        runs = λ k z u. (kvar_ends k z u, rw (kvar_found k z u ∙ ap is_found o));
-      }
-
-      -- none is
-      pub kvar_added : (u : List ℕ) → found ≡ Nothing → Pushed s t at 1 u → AddsKVar (kvar s at) s t u q
-      unfolding add_kvar
-      kvar_added u o m = record {
-        chained = m.chained;
-        words = m.words;
-        runs = λ k z d. (kvar_ends k z d, rw (kvar_found k z d ∙ ap is_found o) (kvar_pushed s at k z d t u (bytes_of s x) p r.short is_name m));
-      }
+    -- none is
+    pub kvar_added : (u : List ℕ) → is_some found ≡ false → Pushed s t at 1 u → AddsKVar (kvar s at) s t u q
+    unfolding add_kvar
+    kvar_added u h w = record {
+      chained = w.chained;
+      words = w.words;
+      runs = λ k z d. (kvar_ends k z d, rw (kvar_found k z d ∙ h) (kvar_pushed s at k z d t u x p r.short e w));
+    }
 
 -- KVARS IN A ROW
 

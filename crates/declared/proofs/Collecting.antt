@@ -2,27 +2,18 @@
 use mathlib.Core.Path.{◌≡◌, refl, sym, ap, ◌∙◌}
 use mathlib.Core.Bool.{Bool, true, false, cond}
 use mathlib.Core.List.{List, [], ◌∷◌, ◌++◌, map}
-use Prim.Native.Nat.{ℕ, zero, suc, ◌+◌, ◌-◌, ◌≤◌, ◌<◌}
+use Prim.Native.Nat.{ℕ, suc, ◌+◌, ◌-◌, ◌≤◌, ◌<◌}
 use native.Mathlib.Omega.{arith}
-use native.Mathlib.Numerals.{sub-one}
 use lib.Dec.{eqb}
 use lib.ListN.{length, get_or}
 use borrow.Author.Tests.{lt-ltb}
 use Rattle.task.specs.declared.Fault.{Fault}
-use Rattle.task.specs.declared.Number.{Number}
-use Rattle.task.specs.declared.Number.TheVariants as number_is
-use Rattle.task.specs.declared.Span.{Span}
-use Rattle.task.specs.declared.SpanRead.{SpanRead}
-use Rattle.task.specs.declared.SpanRead.TheVariants as span_is
-use Rattle.task.specs.Decode.{Res, got, refuse, bind, Decoder, refusal, raw, number, many, name, binder, dec_sort, data_ctor, datatype, deepest}
+use Rattle.task.specs.Decode.{Res, got, bind, Decoder, refusal, raw, number, many, name, binder, dec_sort, data_ctor, datatype, deepest}
 use Rattle.task.specs.Fault.{sort_fault}
-use Rattle.task.specs.Node.{bytes_of, span_of, number_of}
 use Rattle.task.proofs.Reading.{bind_got, got_refuse, number_got, raw_got, byte_fits}
 use Rattle.task.proofs.Running.{Steps, Owing, owing_start, owing_more, owing_end}
-use Rattle.task_check.specs.declared.Walked.{Walked}
-use Rattle.task_check.specs.declared.Walked.TheVariants as walked_is
 use Rattle.task_check.specs.Walk.{walked}
-use Rattle.task_check.proofs.Rows.{next_is, refused_is}
+use Rattle.task_check.proofs.Rows.{next_is}
 use Rattle.names.specs.declared.Kind.{Kind}
 use Rattle.names.specs.declared.Kind.TheVariants.{Datatype, Constructor}
 use Rattle.names.specs.Table.{number_of as kind_number, name_at, has_name, Symbol, symbol, entries, Chained, add}
@@ -83,21 +74,12 @@ module _ (s t u : List ℕ) (at k : ℕ) (l : length s ≤ 65535) (w : Pushed s 
 
 -- PIECES
 
-module _ {A : Type 0} (symbols : A → List Symbol) (s t : List ℕ) (c : Chained s t) (r : ℕ) where
-  -- nothing was decoded
-  pub none_collects : (d : Res A) (k : ℕ) → d ≡ refuse k → Collects symbols d s t t r
-  none_collects d k e = record { chained = c; kept = kept_all t; words = refl; runs = λ a p g. got_refuse (sym g ∙ e) }
-
-  -- nothing was decoded behind a name
-  pub some_collects : (u : List ℕ) (at n : ℕ) (d : Res A) (k : ℕ) → Pushed s t at n u → d ≡ refuse k → Collects symbols d s t u r
-  some_collects u at n d k w e = record { chained = w.chained; kept = w.kept; words = w.words; runs = λ a p g. got_refuse (sym g ∙ e) }
-
 -- a piece without names is walked over
-pub skip_collects : {A : Type 0} (fault : A → Fault) (d : Res A) (s u : List ℕ) (v : Walked) (q : ℕ) (f : Fault) → Chained s u → v ≡ walked fault d → v ≡ walked_is.Next f q
+pub skip_collects : {A : Type 0} (fault : A → Fault) (d : Res A) (s u : List ℕ) (q : ℕ) (f : Fault) → Chained s u → got f q ≡ walked fault d
     → Collects (λ (a : A). []) d s u u q
 unfolding adds
-skip_collects fault d s u v q f c e g =
-    let y = next_is fault d q f (sym g ∙ e) in
+skip_collects fault d s u q f c e =
+    let y = next_is fault d q f e in
     record { chained = c; kept = kept_all u; words = refl; runs = λ a p h. let z : got y.value q ≡ got a p = sym y.is ∙ h in (cc, refl) }
 
 -- a piece that begins with its name
@@ -123,100 +105,76 @@ module _ {A B : Type 0} (symbols : A → List Symbol) (parts : B → List Symbol
             );
       }
 
-module _ (s t : List ℕ) (at : ℕ) (v : SpanRead) (h : name s at ≡ span_of s v) where
-  -- there is no name
-  pub no_name : (kind : Kind) (r : ℕ) → Ready s t → v ≡ span_is.Refused → Collects (alone kind) (name s at) s t t r
-  no_name kind r c e = none_collects (alone kind) s t c.chained r (name s at) 2 (h ∙ ap (span_of s) e)
+-- a name that is pushed, with what follows it
+module _ (s t : List ℕ) (at : ℕ) (l : Ready s t) (x : List ℕ) (p : ℕ) (e : name s at ≡ got x p) where
+  -- a name
+  pub name_collected : (kind : Kind) (u : List ℕ) → Pushed s t at (kind_number kind) u → Collects (alone kind) (name s at) s t u p
+  name_collected kind u w =
+      record {
+        chained = w.chained;
+        kept = w.kept;
+        words = w.words;
+        runs = λ y q g.
+            let i : got x p ≡ got y q = sym e ∙ g in
+            (cc, name_added s t u at (kind_number kind) l.short w y q g);
+      }
 
-  pub unnamed : {A : Type 0} (symbols : A → List Symbol) (k : List ℕ → ℕ → Res A) (r : ℕ) → Ready s t → v ≡ span_is.Refused → Collects symbols (bind (name s at) k) s t t r
-  unnamed symbols k r c e = none_collects symbols s t c.chained r (bind (name s at) k) 2 (ap (λ (y : Res (List ℕ)). bind y k) (h ∙ ap (span_of s) e))
+  -- a name with its sort
+  pub sorted : (levels : ℕ) (kind : Kind) (u : List ℕ) → Pushed s t at (kind_number kind) u → (q : ℕ) (f : Fault)
+      → got f q ≡ walked (sort_fault false) (dec_sort levels s p) → Collects (named kind) (binder levels s at) s t u q
+  sorted levels kind u w q f g =
+      made_collects (named kind) (λ b. []) (λ b. record { name = x; sort = b }) s t u u at (kind_number kind) x p q (binder levels s at) (dec_sort levels s p)
+      (rw e) l.short w e (λ b. refl) (skip_collects (sort_fault false) (dec_sort levels s p) s u q f w.chained g)
 
-  module _ (x : Span) (p : ℕ) (e : v ≡ span_is.At x p) (l : Ready s t) where
-    is_name : name s at ≡ got (bytes_of s x) p
-    is_name = h ∙ ap (span_of s) e
+  -- a constructor
+  pub ctor_collected : (n q : ℕ) (u v : List ℕ) (r : ℕ) → number 2 s p ≡ got n q → Pushed s t at (kind_number Constructor) u
+      → Collects field_symbols (many [] ◌∷◌ (binder deepest) n s q) s u v r → Collects ctor_symbols (data_ctor s at) s t v r
+  ctor_collected n q u v r g w c =
+      made_collects ctor_symbols field_symbols (λ fs. record { name = x; fields = fs }) s t u v at (kind_number Constructor) x p r (data_ctor s at)
+      (many [] ◌∷◌ (binder deepest) n s q) (rw (e, g)) l.short w e (λ fs. refl) c
 
-    -- a name
-    pub name_collected : (kind : Kind) (u : List ℕ) → Pushed s t at (kind_number kind) u → Collects (alone kind) (name s at) s t u p
-    name_collected kind u w =
-        record {
-          chained = w.chained;
-          kept = w.kept;
-          words = w.words;
-          runs = λ y q g.
-              let i : got (bytes_of s x) p ≡ got y q = sym is_name ∙ g in
-              (cc, name_added s t u at (kind_number kind) l.short w y q g);
-        }
-
-    -- a name with its sort
-    pub unsorted : (levels : ℕ) (kind : Kind) (u : List ℕ) (z : Walked) (n r : ℕ) → Pushed s t at (kind_number kind) u → z ≡ walked (sort_fault false) (dec_sort levels s p) → z ≡ walked_is.Refused n
-        → Collects (named kind) (binder levels s at) s t u r
-    unsorted levels kind u z n r w e1 e2 =
-        some_collects (named kind) s t l.chained r u at (kind_number kind) (binder levels s at) n w
-        (rw (is_name, refused_is (sort_fault false) (dec_sort levels s p) n (sym e2 ∙ e1)))
-
-    pub sorted : (levels : ℕ) (kind : Kind) (u : List ℕ) (z : Walked) (q : ℕ) (f : Fault) → Pushed s t at (kind_number kind) u → z ≡ walked (sort_fault false) (dec_sort levels s p) → z ≡ walked_is.Next f q
-        → Collects (named kind) (binder levels s at) s t u q
-    sorted levels kind u z q f w e1 e2 =
-        made_collects (named kind) (λ b. []) (λ b. record { name = bytes_of s x; sort = b }) s t u u at (kind_number kind) (bytes_of s x) p q (binder levels s at) (dec_sort levels s p)
-        (rw is_name) l.short w is_name (λ b. refl) (skip_collects (sort_fault false) (dec_sort levels s p) s u z q f w.chained e1 e2)
-
-    -- a constructor
-    module _ (m : Number) (g : number 2 s p ≡ number_of m) where
-      pub ctor_uncounted : (r : ℕ) → m ≡ number_is.Refused → Collects ctor_symbols (data_ctor s at) s t t r
-      ctor_uncounted r e' = none_collects ctor_symbols s t l.chained r (data_ctor s at) 2 (rw (is_name, g ∙ ap number_of e'))
-
-      pub ctor_collected : (n q : ℕ) (u v : List ℕ) (r : ℕ) → m ≡ number_is.Value n q → Pushed s t at (kind_number Constructor) u
-          → Collects field_symbols (many [] ◌∷◌ (binder deepest) n s q) s u v r → Collects ctor_symbols (data_ctor s at) s t v r
-      ctor_collected n q u v r e' w c =
-          made_collects ctor_symbols field_symbols (λ fs. record { name = bytes_of s x; fields = fs }) s t u v at (kind_number Constructor) (bytes_of s x) p r (data_ctor s at)
-          (many [] ◌∷◌ (binder deepest) n s q) (rw (is_name, g ∙ ap number_of e')) l.short w is_name (λ fs. refl) c
-
-      -- a datatype
-      pub data_unparameterized : (r : ℕ) → m ≡ number_is.Refused → Collects datatype_symbols (datatype s at) s t t r
-      data_unparameterized r e' = none_collects datatype_symbols s t l.chained r (datatype s at) 2 (rw (is_name, g ∙ ap number_of e'))
-
-      module _ (vars q : ℕ) (e' : m ≡ number_is.Value vars q) (o : Number) (j : number 2 s q ≡ number_of o) where
-        pub data_uncounted : (r : ℕ) → o ≡ number_is.Refused → Collects datatype_symbols (datatype s at) s t t r
-        data_uncounted r e'' = none_collects datatype_symbols s t l.chained r (datatype s at) 2 (rw (is_name, g ∙ ap number_of e', j ∙ ap number_of e''))
-
-        pub data_collected : (n q' : ℕ) (u v : List ℕ) (r : ℕ) → o ≡ number_is.Value n q' → Pushed s t at (kind_number Datatype) u
-            → Collects ctors_symbols (many [] ◌∷◌ data_ctor n s q') s u v r → Collects datatype_symbols (datatype s at) s t v r
-        data_collected n q' u v r e'' w c =
-            made_collects datatype_symbols ctors_symbols (λ cs. record { name = bytes_of s x; vars = vars; ctors = cs }) s t u v at (kind_number Datatype) (bytes_of s x) p r (datatype s at)
-            (many [] ◌∷◌ data_ctor n s q') (rw (is_name, g ∙ ap number_of e', j ∙ ap number_of e'')) l.short w is_name (λ cs. refl) c
-
--- after a push the table is ready for the next
-pub pushed_ready : (s t u : List ℕ) (at k : ℕ) → Ready s t → Pushed s t at k u → Ready s u
-pushed_ready s t u at k r w = record { chained = w.chained; short = r.short }
+  -- a datatype
+  pub data_collected : (vars q : ℕ) → number 2 s p ≡ got vars q → (n q' : ℕ) (u v : List ℕ) (r : ℕ) → number 2 s q ≡ got n q' → Pushed s t at (kind_number Datatype) u
+      → Collects ctors_symbols (many [] ◌∷◌ data_ctor n s q') s u v r → Collects datatype_symbols (datatype s at) s t v r
+  data_collected vars q g n q' u v r h w c =
+      made_collects datatype_symbols ctors_symbols (λ cs. record { name = x; vars = vars; ctors = cs }) s t u v at (kind_number Datatype) x p r (datatype s at)
+      (many [] ◌∷◌ data_ctor n s q') (rw (e, g, h)) l.short w e (λ cs. refl) c
 
 -- PIECES IN A ROW
 
 module _ {A : Type 0} (symbols : A → List Symbol) (d : Decoder A) (s t : List ℕ) (m at : ℕ) where
-  -- the loop: n pieces from p on are left, and t has become u
-  pub record Walking (u : List ℕ) (n p : ℕ) : Type 0 where
+  -- the loop: of m pieces i were collected, the others stand from p on, and t has become u
+  pub record Walking (u : List ℕ) (i p : ℕ) : Type 0 where
     pub ready : Ready s u
     pub kept : Kept t u
     pub words : length u ≡ length t
-    pub owing : Owing (row_steps (length t) symbols) (many [] ◌∷◌ d m s at) (entries s t) (many [] ◌∷◌ d n s p) (entries s u)
+    pub owing : Owing (row_steps (length t) symbols) (many [] ◌∷◌ d m s at) (entries s t) (many [] ◌∷◌ d (m - i) s p) (entries s u)
 
-  pub walking_start : Ready s t → Walking t m at
-  walking_start r = record { ready = r; kept = kept_all t; words = refl; owing = owing_start (row_steps (length t) symbols) (many [] ◌∷◌ d m s at) (entries s t) }
+  pub walking_start : Ready s t → Walking t 0 at
+  walking_start r =
+      let z : m - 0 ≡ m = omega arith in
+      record {
+        ready = r;
+        kept = kept_all t;
+        words = refl;
+        owing = rw z (owing_start (row_steps (length t) symbols) (many [] ◌∷◌ d m s at) (entries s t));
+      }
 
-  pub walking_more : (u v : List ℕ) (n p q : ℕ) → Walking u n p → 0 < n → Collects symbols (d s p) s u v q → Walking v (n - 1) q
-  walking_more u v zero p q w h c = absurd (omega arith)
-  walking_more u v (suc n) p q w h c =
+  pub walking_more : (u v : List ℕ) (i p q : ℕ) → Walking u i p → i < m → Collects symbols (d s p) s u v q → Walking v (i + 1) q
+  walking_more u v i p q w h c =
+      let z : m - i ≡ suc (m - (i + 1)) = omega arith in
       record {
         ready = record { chained = c.chained; short = w.ready.short };
         kept = kept_both t u v w.kept c.kept;
         words = c.words ∙ w.words;
-        owing = rw (sub-one (suc n))
-            (owing_more (row_steps (length t) symbols) (many [] ◌∷◌ d m s at) (entries s t) (d s p) (many [] ◌∷◌ d n s) (entries s u) (entries s v) q w.owing
-            (λ a p1 e. let y = c.runs a p1 e in (y.0, y.1 ∙ ap (λ (k : ℕ). adds k (entries s u) (symbols a)) w.words)));
+        owing = owing_more (row_steps (length t) symbols) (many [] ◌∷◌ d m s at) (entries s t) (d s p) (many [] ◌∷◌ d (m - (i + 1)) s) (entries s u) (entries s v) q
+            (rw z at w.owing)
+            (λ a p1 e. let y = c.runs a p1 e in (y.0, y.1 ∙ ap (λ (k : ℕ). adds k (entries s u) (symbols a)) w.words));
       }
 
-  pub walking_end : (u : List ℕ) (n p : ℕ) → Walking u n p → n ≤ 0 → Collects (λ xs. together (map symbols xs)) (many [] ◌∷◌ d m s at) s t u p
-  walking_end u n p w h =
-      let z : n ≡ 0 = omega arith in
+  pub walking_end : (u : List ℕ) (i p : ℕ) → Walking u i p → m ≤ i → Collects (λ xs. together (map symbols xs)) (many [] ◌∷◌ d m s at) s t u p
+  walking_end u i p w h =
+      let z : m - i ≡ 0 = omega arith in
       record {
         chained = w.ready.chained;
         kept = w.kept;

@@ -5,7 +5,7 @@ use Prim.Native.Nat.{ℕ, ◌≤◌, ◌<◌}
 use native.Mathlib.Omega.{arith}
 use lib.ListN.{length, take, length-take}
 use Rattle.task.specs.Covers.{CoversSome}
-use Rattle.task.specs.Decode.{Res, got, refuse, bind, Decoder, datatype, constant}
+use Rattle.task.specs.Decode.{Res, got, bind, Decoder, datatype, constant}
 use Rattle.task.specs.Run.{Runs}
 use Rattle.task.proofs.Reading.{bind_got}
 use Rattle.task.proofs.Running.{Steps}
@@ -15,12 +15,12 @@ use Rattle.task.proofs.Sections.{covers_map, runs_whole, Over, over_start, over_
 use Rattle.item_check.specs.declared.Section.{Section}
 use Rattle.item_check.specs.declared.Section.TheVariants.{Comments, Datatypes, Constants, Functions, KVars}
 use Rattle.trailer.specs.declared.Bounds.{Bounds}
-use Rattle.trailer.specs.Bounds.{Inside, start_of, end_of}
+use Rattle.trailer.specs.Bounds.{Inside, end_of}
 use Rattle.names.specs.declared.Kind.TheVariants.{Constant}
 use Rattle.names.specs.Table.{Symbol, entries, Chained}
 use Rattle.declared.specs.Symbols.{together, named, datatype_symbols}
 use Rattle.declared.specs.Gather.{adds, Ready, Collects, item_symbols, themselves, Sweeps, adds_all, Gathers}
-use Rattle.declared.proofs.Collecting.{adds_append, none_collects}
+use Rattle.declared.proofs.Collecting.{adds_append}
 
 -- AN ITEM
 
@@ -40,22 +40,6 @@ of_piece symbols d s t u r c =
     }
 
 module _ (i : Section) (s t : List ℕ) (at : ℕ) where
-  -- an item of a section that has no symbols
-  none_of : (j : Section) → item_symbols j s at ≡ refuse 2 → (r : ℕ) → i ≡ j → Ready s t → Collects themselves (item_symbols i s at) s t t r
-  none_of j z r e c = none_collects themselves s t c.chained r (item_symbols i s at) 2 (ap (λ (k : Section). item_symbols k s at) e ∙ z)
-
-  pub comments_none : (r : ℕ) → i ≡ Comments → Ready s t → Collects themselves (item_symbols i s at) s t t r
-  unfolding item_symbols
-  comments_none = none_of Comments refl
-
-  pub functions_none : (r : ℕ) → i ≡ Functions → Ready s t → Collects themselves (item_symbols i s at) s t t r
-  unfolding item_symbols
-  functions_none = none_of Functions refl
-
-  pub kvars_none : (r : ℕ) → i ≡ KVars → Ready s t → Collects themselves (item_symbols i s at) s t t r
-  unfolding item_symbols
-  kvars_none = none_of KVars refl
-
   pub datatypes_item : (u : List ℕ) (r : ℕ) → i ≡ Datatypes → Collects datatype_symbols (datatype s at) s t u r → Collects themselves (item_symbols i s at) s t u r
   unfolding item_symbols
   datatypes_item u r e c = rw e (of_piece datatype_symbols (datatype s at) s t u r c)
@@ -121,11 +105,6 @@ module _ {A W : Type 0} (held : List ℕ → W) {one : ℕ → W → A → W} {a
         words = w.words;
         are = λ xs z g. (over_end (steps (length t)) d covers (take end file) at (held t) p (held u) (omega arith) w.over xs z g).1;
       }
-
--- a section of the file, where it begins and ends as the code has it
-pub section_gathered : (file : List ℕ) (b : Bounds) (i : Section) (at end : ℕ) (t u : List ℕ) → at ≡ start_of b i → end ≡ end_of b i → Gathers file i at end t u
-    → Gathers file i (start_of b i) (end_of b i) t u
-section_gathered file b i at end t u e e' g = rw (← e, ← e') g
 
 -- it ends inside the file
 pub ends_inside : (file : List ℕ) (b : Bounds) (i : Section) (end : ℕ) → Inside file b → end ≡ end_of b i → end ≤ length file

@@ -10,9 +10,7 @@ ghost use Rattle.declared.specs.Symbols.{alone, named, row_symbols, ctor_symbols
 ghost use Rattle.declared.specs.Gather.{Ready, Collects, item_symbols, themselves, Sweeps, Gathers, holding, add_kvars, AddsKVar, Declared, KVarsDeclared};
 
 use item_check::Section;
-use names::{Found, Kind};
-use task::{Number, SpanRead};
-use task_check::Walked;
+use names::Kind;
 use trailer::Bounds;
 
 // A name with its sort: the name is an entry of the kind.
@@ -20,19 +18,18 @@ fn push_binder(s: &[u8], at: usize, levels: usize, kind: Kind, table: &mut [u16]
     requires { Ready s.now table.old }
     ensures { Collects (named kind) (binder levels s.now at) s.now table.old table.new result }
 {
-    let name = task::read_name(s, at);
-    let SpanRead::At(_, p) = name else {
+    let Ok((_, p)) = task::read_name(s, at) else {
         return at;
     };
     names::push(s, table, at, kind);
-    let sort = task_check::check_sort(s, p, levels, false);
-    let Walked::Next(_, q) = sort else {
+    let Ok((_, q)) = task_check::check_sort(s, p, levels, false) else {
         return at;
     };
     q
 }
 
 // n names with their sorts.
+#[tactic(auto, using(crate::proofs::Collecting::walking_start, crate::proofs::Collecting::walking_more, crate::proofs::Collecting::walking_end))]
 pub fn push_binders(
     s: &[u8],
     at: usize,
@@ -45,10 +42,8 @@ pub fn push_binders(
     ensures { Collects (row_symbols (named kind)) (many [] ◌∷◌ (binder levels) n s.now at) s.now table.old table.new result }
 {
     let mut p = at;
-    let mut left = n;
-    while 0 < left {
+    for _ in 0..n {
         p = push_binder(s, p, levels, kind, table);
-        left -= 1;
     }
     p
 }
@@ -58,8 +53,7 @@ fn push_name(s: &[u8], at: usize, kind: Kind, table: &mut [u16]) -> usize
     requires { Ready s.now table.old }
     ensures { Collects (alone kind) (name s.now at) s.now table.old table.new result }
 {
-    let name = task::read_name(s, at);
-    let SpanRead::At(_, p) = name else {
+    let Ok((_, p)) = task::read_name(s, at) else {
         return at;
     };
     names::push(s, table, at, kind);
@@ -67,15 +61,14 @@ fn push_name(s: &[u8], at: usize, kind: Kind, table: &mut [u16]) -> usize
 }
 
 // n names.
+#[tactic(auto, using(crate::proofs::Collecting::walking_start, crate::proofs::Collecting::walking_more, crate::proofs::Collecting::walking_end))]
 pub fn push_names(s: &[u8], at: usize, n: u64, kind: Kind, table: &mut [u16]) -> usize
     requires { Ready s.now table.old }
     ensures { Collects (row_symbols (alone kind)) (many [] ◌∷◌ name n s.now at) s.now table.old table.new result }
 {
     let mut p = at;
-    let mut left = n;
-    while 0 < left {
+    for _ in 0..n {
         p = push_name(s, p, kind, table);
-        left -= 1;
     }
     p
 }
@@ -85,12 +78,10 @@ fn push_ctor(s: &[u8], at: usize, table: &mut [u16]) -> usize
     requires { Ready s.now table.old }
     ensures { Collects ctor_symbols (data_ctor s.now at) s.now table.old table.new result }
 {
-    let name = task::read_name(s, at);
-    let SpanRead::At(_, p) = name else {
+    let Ok((_, p)) = task::read_name(s, at) else {
         return at;
     };
-    let count = task::number_at(s, p, 2);
-    let Number::Value(n, q) = count else {
+    let Ok((n, q)) = task::number_at(s, p, 2) else {
         return at;
     };
     names::push(s, table, at, Kind::Constructor);
@@ -98,15 +89,14 @@ fn push_ctor(s: &[u8], at: usize, table: &mut [u16]) -> usize
 }
 
 // n constructors in a row.
+#[tactic(auto, using(crate::proofs::Collecting::walking_start, crate::proofs::Collecting::walking_more, crate::proofs::Collecting::walking_end))]
 fn push_ctors(s: &[u8], at: usize, n: u64, table: &mut [u16]) -> usize
     requires { Ready s.now table.old }
     ensures { Collects ctors_symbols (many [] ◌∷◌ data_ctor n s.now at) s.now table.old table.new result }
 {
     let mut p = at;
-    let mut left = n;
-    while 0 < left {
+    for _ in 0..n {
         p = push_ctor(s, p, table);
-        left -= 1;
     }
     p
 }
@@ -116,16 +106,13 @@ fn push_datatype(s: &[u8], at: usize, table: &mut [u16]) -> usize
     requires { Ready s.now table.old }
     ensures { Collects datatype_symbols (datatype s.now at) s.now table.old table.new result }
 {
-    let name = task::read_name(s, at);
-    let SpanRead::At(_, p) = name else {
+    let Ok((_, p)) = task::read_name(s, at) else {
         return at;
     };
-    let vars = task::number_at(s, p, 2);
-    let Number::Value(_, q) = vars else {
+    let Ok((_, q)) = task::number_at(s, p, 2) else {
         return at;
     };
-    let count = task::number_at(s, q, 2);
-    let Number::Value(n, r) = count else {
+    let Ok((n, r)) = task::number_at(s, q, 2) else {
         return at;
     };
     names::push(s, table, at, Kind::Datatype);
@@ -133,6 +120,7 @@ fn push_datatype(s: &[u8], at: usize, table: &mut [u16]) -> usize
 }
 
 // An item of a section.
+#[tactic(auto, unfolding(crate::specs::Gather::item_symbols))]
 fn push_item(s: &[u8], at: usize, section: Section, table: &mut [u16]) -> usize
     requires { Ready s.now table.old }
     ensures { Collects themselves (item_symbols section s.now at) s.now table.old table.new result }
@@ -172,6 +160,7 @@ fn push_items(file: &[u8], b: Bounds, section: Section, table: &mut [u16])
 }
 
 // Puts the datatypes and constants of the file into an empty table with as many words for entries as the file has bytes.
+#[tactic(auto, using(crate::proofs::Gathering::gathered_ready))]
 pub fn declare(file: &[u8], b: Bounds, table: &mut [u16])
     requires inside { Inside file.now b × Blank table.old }
     requires room { 1026 + length file.now ≤ length table.old }
@@ -186,19 +175,15 @@ fn push_kvar(s: &[u8], at: usize, table: &mut [u16]) -> usize
     requires { Ready s.now table.old }
     ensures { AddsKVar (kvar s.now at) s.now table.old table.new result }
 {
-    let name = task::read_name(s, at);
-    let SpanRead::At(x, _) = name else {
+    let Ok((x, _)) = task::read_name(s, at) else {
         return at;
     };
-    let item = item_check::check_item(s, at, Section::KVars);
-    let Walked::Next(_, q) = item else {
+    let Ok((_, q)) = item_check::check_item(s, at, Section::KVars) else {
         return at;
     };
-    let found = names::find(s, table, task::bytes_of(s, x), Kind::KVar, Kind::KVar);
-    let Found::Nothing = found else {
-        return q;
-    };
-    names::push(s, table, at, Kind::KVar);
+    if names::find(s, table, x, Kind::KVar, Kind::KVar).is_none() {
+        names::push(s, table, at, Kind::KVar);
+    }
     q
 }
 

@@ -1,8 +1,9 @@
 -- What the steps of the walk over a constraint add up to.
+use Rattle.std.specs.Prelude.{Ok, Err}
 use mathlib.Core.Path.{◌≡◌, refl, sym, ap, ◌∙◌}
 use mathlib.Core.Bool.{Bool, true, false, not, ◌&&◌}
 use mathlib.Core.List.{List, [], ◌∷◌, ◌++◌, map-append}
-use Prim.Native.Nat.{ℕ, zero, suc, ◌+◌, ◌-◌, ◌<◌, ◌≤◌, min}
+use Prim.Native.Nat.{ℕ, suc, ◌+◌, ◌-◌, ◌<◌, ◌≤◌, min}
 use native.Mathlib.Omega.{arith}
 use mir.Val.{Fits}
 use mir.Syntax.{w8}
@@ -13,23 +14,22 @@ use Rattle.task.specs.declared.Fault.{Fault}
 use Rattle.task.specs.declared.ConstraintNode.{ConstraintNode}
 use Rattle.task.specs.declared.ConstraintNode.TheVariants as constraint_node
 use Rattle.task.specs.Ast.{Sort, Binder, Pred, Constraint, Constraints}
-use Rattle.task.specs.Decode.{Res, got, bind, number, many, counted, name, binder, dec_sort, dec_pred, dec_constraint, deepest}
+use Rattle.task.specs.Decode.{Res, got, refuse, bind, number, many, counted, name, binder, dec_sort, dec_pred, dec_constraint, deepest}
 use Rattle.task.specs.Fault.{pred_fault}
 use Rattle.task.specs.Run.{Runs}
 use Rattle.task.specs.Task.{literally_true}
-use Rattle.task.specs.Node.{constraint_of, ConstraintAt}
+use Rattle.task.specs.declared.Refusal.{Refusal}
+use Rattle.task.specs.Node.{Answered, number_of, constraint_of, ConstraintAt}
 use Rattle.task.proofs.Reading.{bind_got, got_refuse}
 use Rattle.task.proofs.Levels.{deeper}
 use Rattle.task.proofs.Nodes.{constraint_at}
-use Rattle.task_check.specs.declared.Walked.{Walked}
-use Rattle.task_check.specs.declared.Walked.TheVariants as walked_is
 use Rattle.task_check.specs.Walk.{walked, read_true}
 use Rattle.task_check.proofs.Rows.{refused_is, next_is}
 use Rattle.path.specs.declared.Path.{Path}
 use Rattle.path.specs.Offsets.{entries}
 use Rattle.path.proofs.Entries.{depth_is, leaves_fewer, leaves_pushed}
 use Rattle.constraint_check.specs.Around.{is_head, Header, header_fault, header, for_all}
-use Rattle.constraint_check.proofs.Names.{head_stands, name_inside}
+use Rattle.constraint_check.proofs.Names.{name_inside}
 use Rattle.constraint_check.proofs.Constraints.{head_node}
 use Rattle.smt_text.specs.Encoder.{Encoder}
 use Rattle.horn_text.specs.Clauses.{ForAll, binders_of, guards_of, flatten_constraint, flatten_constraints}
@@ -58,17 +58,17 @@ out_of : (a : Bool) → (a && not false) ≡ false → a ≡ false
 out_of true e = clash (cc)
 out_of false e = refl
 
-module _ (d : Res Pred) (f : Moved) (v : Walked) (e : v ≡ walked pred_fault d) where
+module _ (d : Res Pred) (f : Moved) where
   -- one that is refused has no parts
-  pub pred_refused : (k : ℕ) → v ≡ walked_is.Refused k → Passes f d f
+  pub pred_refused : (k : ℕ) → refuse k ≡ walked pred_fault d → Passes f d f
   unfolding Passes Puts
-  pred_refused k e' i enc fs b ls =
-      rw (refused_is pred_fault d k (sym e' ∙ e))
+  pred_refused k e i enc fs b ls =
+      rw (refused_is pred_fault d k e)
       (runs_refused (λ z a. puts z (head_parts enc fs a)) (writing f.progress b ls) (writing f.progress b ls) f.at k)
 
-  module _ (t : Bool) (h : t ≡ read_true d) (q : ℕ) (x : Fault) (e' : v ≡ walked_is.Next x q) where
+  module _ (t : Bool) (h : t ≡ read_true d) (q : ℕ) (x : Fault) (e : got x q ≡ walked pred_fault d) where
     ends : (a : Pred) (z : ℕ) → d ≡ got a z → q ≡ z
-    ends a z k = let y : walked_is.Next x q ≡ walked_is.Next (pred_fault a) z = sym e' ∙ e ∙ ap (walked pred_fault) k in cc
+    ends a z k = let y : got x q ≡ got (pred_fault a) z = e ∙ ap (walked pred_fault) k in cc
 
     -- one that is literally true has none
     pub head_true : (m : Moved) → t ≡ true → (m.at ≡ q) × (m.progress ≡ f.progress) → Passes f d m
@@ -84,16 +84,6 @@ module _ (d : Res Pred) (f : Moved) (v : Walked) (e : v ≡ walked pred_fault d)
         let l : literally_true a ≡ false = sym (sym h' ∙ h ∙ ap read_true k) in
         let j : (has f.progress.range f.progress.seen && not false) ≡ false = rw (sym h ∙ h') at i in
         (ends a z k, rw l (put_out f.progress p b (assert_text enc fs a) ls (out_of (has f.progress.range f.progress.seen) j) u))
-
--- the tests of is_wanted
-module _ (p : Progress) (d : Res Pred) (c : Bool) (e : c ≡ has p.range p.seen) where
-  pub is_wanted : (t : Bool) → t ≡ read_true d → c ≡ true → not t ≡ wanted p d
-  unfolding wanted
-  is_wanted t h e' = rw (← e, e', h)
-
-  pub not_wanted : c ≡ false → false ≡ wanted p d
-  unfolding wanted
-  not_wanted e' = rw (← e, e')
 
 -- what is written
 module _ (d : Res Pred) (f : Moved) (c : Bool) (e : c ≡ wanted f.progress d) where
@@ -160,11 +150,6 @@ kept_numbers s enc text os kept fs z e k gs q g =
     let i : fs ≡ gs = cc in
     ap (λ (x : Kept). x.count) k.measures ∙ ap (λ (hs : List ForAll). length (guards_of hs)) i
 
--- parts that were put, where the walk is behind them
-pub puts_at : {A : Type 0} (parts : List ForAll → A → List (List ℕ)) (path : Res (List ForAll)) (d : Res A) (w : Writing) (b ls : List ℕ) (m m' : Moved) → m' ≡ m
-    → PutsUnder parts path d w (writing m.progress b ls) m.at → PutsUnder parts path d w (writing m'.progress b ls) m'.at
-puts_at parts path d w b ls m m' e u = rw e u
-
 -- A CONSTRAINT BY ITS NODE
 
 -- the walk goes on from another position, with the same progress
@@ -185,28 +170,31 @@ module _ (enc : Encoder) (path : Res (List ForAll)) (pr : Progress) (xs ls : Lis
     unfolding PutsUnder Puts dec_constraint
     none_left z fs t g = rw z (runs_refused (λ v c. puts v (clause_parts enc fs c)) (writing pr xs ls) w' q 3)
 
-    module _ (node : ConstraintNode) (z : l ≡ 0 → ⊥) (h : ConstraintAt s at node) where
-      pub node_refused : node ≡ constraint_node.Refused → PutsUnder (clause_parts enc) path (dec_constraint l s at) (writing pr xs ls) w' q
-      unfolding PutsUnder Puts constraint_of
-      node_refused e fs t g = rw (constraint_at l s at node constraint_node.Refused z h e) (runs_refused (λ v c. puts v (clause_parts enc fs c)) (writing pr xs ls) w' q 2)
+    pub node_refused : (node : Answered ConstraintNode) (r : Refusal) → (l ≡ 0 → ⊥) → ConstraintAt s at node → node ≡ Err r → PutsUnder (clause_parts enc) path (dec_constraint l s at) (writing pr xs ls) w' q
+    unfolding PutsUnder Puts constraint_of
+    node_refused node r z h e fs t g = rw (constraint_at l s at node (Err r) z h e) (runs_refused (λ v c. puts v (clause_parts enc fs c)) (writing pr xs ls) w' q (number_of r))
 
-      pub node_pred : (p : ℕ) (m : Moved) → node ≡ constraint_node.Pred p → To m p pr → PutsUnder (head_parts enc) path (dec_pred (l - 1) s m.at) (writing m.progress xs ls) w' q
+    module _ (node : ConstraintNode) (p : ℕ) (z : l ≡ 0 → ⊥) (h : ConstraintAt s at (Ok (node, p))) where
+      by_node : (node' : ConstraintNode) → node ≡ node' → dec_constraint l s at ≡ constraint_of s (l - 1) (dec_constraint (l - 1)) (Ok (node', p))
+      by_node node' e = constraint_at l s at (Ok (node, p)) (Ok (node', p)) z h (ap (λ (n : ConstraintNode). Ok (n, p)) e)
+
+      pub node_pred : (m : Moved) → node ≡ constraint_node.Pred → To m p pr → PutsUnder (head_parts enc) path (dec_pred (l - 1) s m.at) (writing m.progress xs ls) w' q
           → PutsUnder (clause_parts enc) path (dec_constraint l s at) (writing pr xs ls) w' q
       unfolding constraint_of head_parts clause_parts
-      node_pred p m e i u = rw (constraint_at l s at node (constraint_node.Pred p) z h e) (under_map Constraint.pred (dec_pred (l - 1) s p) (rw (i.0, i.1) at u))
+      node_pred m e i u = rw (by_node constraint_node.Pred e) (under_map Constraint.pred (dec_pred (l - 1) s p) (rw (i.0, i.1) at u))
 
-      pub node_conj : (n p : ℕ) (k : Kept) (m : Row) → node ≡ constraint_node.Conj n p → (m.from.moved.at ≡ p) × (m.from.moved.progress ≡ pr) × (m.from.kept ≡ k) × (m.left ≡ n)
+      pub node_conj : (n : ℕ) (k : Kept) (m : Row) → node ≡ constraint_node.Conj n → (m.from.moved.at ≡ p) × (m.from.moved.progress ≡ pr) × (m.from.kept ≡ k) × (m.left ≡ n)
           → PutsUnder (member_parts enc) path (many Constraints.none Constraints.more (dec_constraint (l - 1)) m.left s m.from.moved.at) (writing m.from.moved.progress xs ls) w' q
           → PutsUnder (clause_parts enc) path (dec_constraint l s at) (writing pr xs ls) w' q
       unfolding constraint_of member_parts clause_parts flatten_constraint
-      node_conj n p k m e i u =
-          rw (constraint_at l s at node (constraint_node.Conj n p) z h e)
+      node_conj n k m e i u =
+          rw (by_node (constraint_node.Conj n) e)
           (under_map Constraint.conj (many Constraints.none Constraints.more (dec_constraint (l - 1)) n s p) (rw (i.0, i.1, i.3) at u))
 
-      pub node_for_all : (p : ℕ) (m : Moved) → node ≡ constraint_node.ForAll p → To m p pr → PutsUnder (clause_parts enc) path (for_all (l - 1) s m.at) (writing m.progress xs ls) w' q
+      pub node_for_all : (m : Moved) → node ≡ constraint_node.ForAll → To m p pr → PutsUnder (clause_parts enc) path (for_all (l - 1) s m.at) (writing m.progress xs ls) w' q
           → PutsUnder (clause_parts enc) path (dec_constraint l s at) (writing pr xs ls) w' q
       unfolding constraint_of
-      node_for_all p m e i u = rw (constraint_at l s at node (constraint_node.ForAll p) z h e) (rw (i.0, i.1) at u)
+      node_for_all m e i u = rw (by_node constraint_node.ForAll e) (rw (i.0, i.1) at u)
 
 -- MEMBERS
 
@@ -233,17 +221,15 @@ runs_before {more = more} {all = all} steps x rest w w' z p t u v b q e =
     (y'.0 ∙ ep, y'.1 ∙ rw y.1 (sym (steps.step w i.value j.value) ∙ ap (all w) eb))
 
 module _ (holds : List ForAll → Type 0) (enc : Encoder) (l : ℕ) (s : List ℕ) where
-  pub onward_start : (n at : ℕ) (w : Writing) → Onward holds enc l s n at w n at w
+  pub onward_start : (n m at : ℕ) (w : Writing) → m ≡ n → Onward holds enc l s n at w m at w
   unfolding Onward
-  onward_start n at w fs h z t u = u
+  onward_start n m at w e = rw e (λ fs h z t u. u)
 
-  onward_one : (n p : ℕ) (w w' : Writing) (t : ℕ) → 0 < n → ((fs : List ForAll) → holds fs → Puts (clause_parts enc fs) (dec_constraint l s p) w w' t)
-      → Onward holds enc l s n p w (n - 1) t w'
+  onward_one : (n p : ℕ) (w w' : Writing) (t : ℕ) → ((fs : List ForAll) → holds fs → Puts (clause_parts enc fs) (dec_constraint l s p) w w' t)
+      → Onward holds enc l s (suc n) p w n t w'
   unfolding Onward Puts
-  onward_one zero p w w' t h u fs e z r v = absurd (omega arith)
-  onward_one (suc n) p w w' t h u fs e z r v =
-      let en : suc n - 1 ≡ n = omega arith in
-      runs_before (member_steps enc fs) (dec_constraint l s p) (many Constraints.none Constraints.more (dec_constraint l) n s) w w' z t r (u fs e) (rw en at v)
+  onward_one n p w w' t u fs e z r v =
+      runs_before (member_steps enc fs) (dec_constraint l s p) (many Constraints.none Constraints.more (dec_constraint l) n s) w w' z t r (u fs e) v
 
   module _ (n at : ℕ) (w : Writing) (n1 p : ℕ) (w1 : Writing) (i : Onward holds enc l s n at w n1 p w1) where
     pub onward_then : (n2 q : ℕ) (w2 : Writing) → Onward holds enc l s n1 p w1 n2 q w2 → Onward holds enc l s n at w n2 q w2
@@ -251,9 +237,9 @@ module _ (holds : List ForAll → Type 0) (enc : Encoder) (l : ℕ) (s : List �
     onward_then n2 q w2 j fs h z t u = i fs h z t (j fs h z t u)
 
     -- one more constraint
-    pub onward_more : (w2 : Writing) (t : ℕ) → 0 < n1 → ((fs : List ForAll) → holds fs → Puts (clause_parts enc fs) (dec_constraint l s p) w1 w2 t)
-        → Onward holds enc l s n at w (n1 - 1) t w2
-    onward_more w2 t h u = onward_then (n1 - 1) t w2 (onward_one n1 p w1 w2 t h u)
+    pub onward_more : (n2 : ℕ) (w2 : Writing) (t : ℕ) → n1 ≡ suc n2 → ((fs : List ForAll) → holds fs → Puts (clause_parts enc fs) (dec_constraint l s p) w1 w2 t)
+        → Onward holds enc l s n at w n2 t w2
+    onward_more n2 w2 t h u = onward_then n2 t w2 (rw (sym h) at (onward_one n2 p w1 w2 t u))
 
     -- none is left
     pub onward_end : n1 ≤ 0 → (fs : List ForAll) → holds fs → Puts (member_parts enc fs) (many Constraints.none Constraints.more (dec_constraint l) n s at) w w1 p
@@ -273,11 +259,11 @@ module _ (enc : Encoder) (path : Res (List ForAll)) (l : ℕ) (s : List ℕ) (m 
 
   pub members_start : Members m at first
   unfolding Members
-  members_start q = onward_start _ enc l s m at first
+  members_start q = onward_start _ enc l s m m at first refl
 
   pub members_more : (n p : ℕ) (w w' : Writing) (t : ℕ) → 0 < n → Members n p w → PutsUnder (clause_parts enc) path (dec_constraint l s p) w w' t → Members (n - 1) t w'
   unfolding Members PutsUnder
-  members_more n p w w' t h i u q = onward_more _ enc l s m at first n p w (i q) w' t h (λ fs g. u fs q g)
+  members_more n p w w' t h i u q = onward_more _ enc l s m at first n p w (i q) (n - 1) w' t (omega arith) (λ fs g. u fs q g)
 
   pub members_end : (n p : ℕ) (w : Writing) → n ≤ 0 → Members n p w → PutsUnder (member_parts enc) path (many Constraints.none Constraints.more (dec_constraint l) m s at) first w p
   unfolding Members PutsUnder
@@ -368,22 +354,22 @@ under_one : (enc : Encoder) (w : Writing) (fs : List ForAll) (f : ForAll) (c : C
 unfolding clause_parts flatten_constraint
 under_one enc w fs f c = rw (binders_snoc fs f, guards_snoc fs f)
 
-module _ (enc : Encoder) (s os : List ℕ) (l at : ℕ) (pr : Progress) (xs ls : List ℕ) (w' : Writing) (t : ℕ) (v : Walked) (e : v ≡ walked header_fault (header l s at)) where
+module _ (enc : Encoder) (s os : List ℕ) (l at : ℕ) (pr : Progress) (xs ls : List ℕ) (w' : Writing) (t : ℕ) where
   headed : (c : Constraint) (z : ℕ) (h : for_all l s at ≡ got c z) → header l s at ≡ got (record { binder = (parts l s at c z h).all.binder; preds = (parts l s at c z h).all.preds }) (parts l s at c z h).body
   headed c z h = let i = parts l s at c z h in rw (i.binds, i.numbers, i.holds)
 
   -- one that is refused in its header
-  pub for_all_unheaded : (k : ℕ) → v ≡ walked_is.Refused k → PutsUnder (clause_parts enc) (on_path s os) (for_all l s at) (writing pr xs ls) w' t
+  pub for_all_unheaded : (k : ℕ) → refuse k ≡ walked header_fault (header l s at) → PutsUnder (clause_parts enc) (on_path s os) (for_all l s at) (writing pr xs ls) w' t
   unfolding PutsUnder Puts
-  for_all_unheaded k e' fs q g c z h = got_refuse (sym (headed c z h) ∙ refused_is header_fault (header l s at) k (sym e' ∙ e))
+  for_all_unheaded k e fs q g c z h = got_refuse (sym (headed c z h) ∙ refused_is header_fault (header l s at) k e)
 
   -- its body is walked with its offset on the path
-  pub for_all_puts : (b : ℕ) (x : Fault) (os' : List ℕ) (j : Moved) → l ≤ deepest → v ≡ walked_is.Next x b → os' ≡ os ++ at ∷ [] → To j b pr
+  pub for_all_puts : (b : ℕ) (x : Fault) (os' : List ℕ) (j : Moved) → l ≤ deepest → got x b ≡ walked header_fault (header l s at) → os' ≡ os ++ at ∷ [] → To j b pr
       → PutsUnder (clause_parts enc) (on_path s os') (dec_constraint l s j.at) (writing j.progress xs ls) w' t → PutsUnder (clause_parts enc) (on_path s os) (for_all l s at) (writing pr xs ls) w' t
   unfolding PutsUnder Puts
-  for_all_puts b x os' j d e' o ej i fs y g c z h =
+  for_all_puts b x os' j d e o ej i fs y g c z h =
       let a = parts l s at c z h in
-      let eb : walked_is.Next x b ≡ walked_is.Next (header_fault (record { binder = a.all.binder; preds = a.all.preds })) a.body = sym e' ∙ e ∙ ap (walked header_fault) (headed c z h) in
+      let eb : got x b ≡ got (header_fault (record { binder = a.all.binder; preds = a.all.preds })) a.body = e ∙ ap (walked header_fault) (headed c z h) in
       let e1 : b ≡ a.body = cc in
       let stands : for_all_at s at ≡ got a.all 0 = header_at l s at a.all.binder a.all.preds a.body d (headed c z h) in
       let on : on_path s os' ≡ got (fs ++ a.all ∷ []) 0 = ap (on_path s) o ∙ on_snoc s os at fs y a.all g stands in
@@ -391,9 +377,9 @@ module _ (enc : Encoder) (s os : List ℕ) (l at : ℕ) (pr : Progress) (xs ls :
       (n.0, n.1 ∙ rw ej.1 (under_one enc (writing pr xs ls) fs a.all a.inner ∙ ap (λ (k : Constraint). puts (writing pr xs ls) (clause_parts enc fs k)) a.is))
 
 -- a header that was read has an offset of two bytes
-pub header_offset : (l : ℕ) (s : List ℕ) (at : ℕ) (v : Walked) (q : ℕ) (f : Fault) → v ≡ walked header_fault (header l s at) → v ≡ walked_is.Next f q → length s < 65536 → at < 65536
-header_offset l s at v q f e e' h =
-    let y = next_is header_fault (header l s at) q f (sym e' ∙ e) in
+pub header_offset : (l : ℕ) (s : List ℕ) (at q : ℕ) (f : Fault) → got f q ≡ walked header_fault (header l s at) → length s < 65536 → at < 65536
+header_offset l s at q f e h =
+    let y = next_is header_fault (header l s at) q f e in
     let b = bind_got (binder l s at) _ y.value q y.is in
     let n = bind_got (name s at) _ b.value b.next b.first in
     let g = name_inside s at n.value n.next n.first in
@@ -401,35 +387,12 @@ header_offset l s at v q f e e' h =
 
 -- HEADS FOR WHICH WHAT IS KEPT IS ENOUGH
 
--- the tests of `is_enough`
-module _ (size room : ℕ) (kept : Kept) where
-  pub enough_empty : room ≡ 0 → true ≡ enough size room kept
-  enough_empty e = rw e
-
-  pub enough_fits : (c : Bool) → (room ≡ 0 → ⊥) → c ≡ fits size kept → c ≡ enough size room kept
-  enough_fits c n e = e ∙ rw (ne_eqb room 0 n)
-
-  -- it is the same with the same numbers
-  pub enough_same : (c : Bool) (size' room' : ℕ) (kept' : Kept) → c ≡ enough size room kept → c ≡ true → size' ≡ size → room' ≡ room → kept' ≡ kept → enough size' room' kept' ≡ true
-  enough_same c size' room' kept' e e' s r k = rw (s, r, k) (sym e ∙ e')
-
-  -- where there is room in the buffer, there is room in the text
-  pub enough_room : enough size room kept ≡ true → (room ≡ 0 → ⊥) → fits size kept ≡ true
-  enough_room h n = rw (ne_eqb room 0 n) at h
-
--- the tests of `is_next_head`
-module _ (l : ℕ) (s : List ℕ) (at : ℕ) (asked c : Bool) (e : c ≡ (asked && is_head l s at)) (e' : c ≡ true) where
-  pub next_asked : asked ≡ true
-  next_asked = (both asked (is_head l s at) (sym e ∙ e')).0
-
-  pub next_stands : is_head l s at ≡ true
-  next_stands = (both asked (is_head l s at) (sym e ∙ e')).1
+-- where there is room in the buffer, there is room in the text
+pub enough_room : (size room : ℕ) (kept : Kept) → enough size room kept ≡ true → (room ≡ 0 → ⊥) → fits size kept ≡ true
+enough_room size room kept h n = rw (ne_eqb room 0 n) at h
 
 -- a head in a row
 module _ (l : ℕ) (s : List ℕ) (at : ℕ) (h : is_head l s at ≡ true) where
-  pub head_within : (0 < l) × (at < length s)
-  head_within = let i = head_stands l s at true (sym h) refl in (i.0, i.1)
-
   pub head_put : (enc text : List ℕ) (kept : Kept) (f m : Moved) (b ls : List ℕ) (w' : Writing) (t : ℕ) → at ≡ f.at
       → (m.at ≡ at + 1) × (m.progress ≡ f.progress) → KeptPuts s enc text kept (dec_pred (l - 1) s m.at) (writing m.progress b ls) w' t
       → (fs : List ForAll) → Keeps (encoder_in s enc) fs text kept → Puts (clause_parts (encoder_in s enc) fs) (dec_constraint l s f.at) (writing f.progress b ls) w' t
@@ -437,7 +400,7 @@ module _ (l : ℕ) (s : List ℕ) (at : ℕ) (h : is_head l s at ≡ true) where
   head_put enc text kept f m b ls w' t ea u w fs k =
       let n = head_node l s at true (sym h) refl in
       rw (← ea)
-      (node_pred (encoder_in s enc) (got fs 0) f.progress b ls w' t l s at (constraint_node.Pred (at + 1)) n.0 n.1 (at + 1) m refl u
+      (node_pred (encoder_in s enc) (got fs 0) f.progress b ls w' t l s at constraint_node.Pred (at + 1) n.0 n.1 m refl u
       (λ gs q g. let i : fs ≡ gs = cc in rw i at (w fs k)) fs 0 refl)
 
 -- ForAlls that stand on a path and of which all is kept
@@ -502,16 +465,16 @@ module _ (s enc text : List ℕ) (path : Path) (k : Kept) (l : ℕ) (h : Ready s
 
 -- A FORALL'S OWN
 
-module _ (s enc text text' : List ℕ) (path : Path) (k own : Kept) (l at : ℕ) (h : Ready s enc text path k (l + 1)) (v : Walked) (b : ℕ) (x : Fault)
-    (e : v ≡ walked header_fault (header l s at)) (e' : v ≡ walked_is.Next x b) (u : Extends s enc at k text text' own) where
+module _ (s enc text text' : List ℕ) (path : Path) (k own : Kept) (l at : ℕ) (h : Ready s enc text path k (l + 1)) (b : ℕ) (x : Fault)
+    (e : got x b ≡ walked header_fault (header l s at)) (u : Extends s enc at k text text' own) where
   -- the ForAll
   last : ForAll
-  last = let y = next_is header_fault (header l s at) b x (sym e' ∙ e) in record { binder = y.value.binder; preds = y.value.preds }
+  last = let y = next_is header_fault (header l s at) b x e in record { binder = y.value.binder; preds = y.value.preds }
 
   last_stands : for_all_at s at ≡ got last 0
   unfolding last
   last_stands =
-      let y = next_is header_fault (header l s at) b x (sym e' ∙ e) in
+      let y = next_is header_fault (header l s at) b x e in
       let g = h.leaves.within in
       header_at l s at y.value.binder y.value.preds b (omega arith) y.is
 

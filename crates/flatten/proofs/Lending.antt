@@ -2,11 +2,9 @@
 use mathlib.Core.Path.{◌≡◌, refl, ap}
 use mathlib.Core.Bool.{true, false}
 use mathlib.Core.List.{List, [], ◌∷◌, ◌++◌}
-use Prim.Native.Nat.{ℕ, ◌-◌, ◌<◌, ◌≤◌, min, max}
-use lib.Dec.{ltb}
+use Prim.Native.Nat.{ℕ, ◌-◌, ◌≤◌, min, max}
 use native.Mathlib.Omega.{arith}
 use lib.ListN.{length, take, drop, set}
-use borrow.Author.Tests.{le-leb, lt-leb}
 use Rattle.task.specs.Decode.{Res}
 use Rattle.task.specs.Run.{Runs}
 use Rattle.output.specs.Emit.{output, most, emits, Sends}
@@ -68,15 +66,3 @@ pub puts_append : (w : Writing) (us vs : List (List ℕ)) → puts w (us ++ vs) 
 unfolding puts
 puts_append w [] vs = refl
 puts_append w (u ∷ us) vs = puts_append (put w u) us vs
-
--- RANGES AND PROGRESS
-
-pub below_range : (r : Range) (n : ℕ) → n < r.from → false ≡ has r n
-below_range r n h = rw (lt-leb r.from n h)
-
-pub not_below : (r : Range) (n : ℕ) → r.from ≤ n → ltb n r.to ≡ has r n
-not_below r n h = rw (le-leb r.from n h)
-
-pub same_progress : {r r' : Range} {n n' l l' m m' : ℕ} → r ≡ r' → n ≡ n' → l ≡ l' → m ≡ m'
-    → ◌≡◌ {A = Progress} (record { range = r; seen = n; len = l; longest = m }) (record { range = r'; seen = n'; len = l'; longest = m' })
-same_progress o p q r = λ i. record { range = o i; seen = p i; len = q i; longest = r i }

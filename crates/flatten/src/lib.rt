@@ -4,7 +4,7 @@
 // it. So where the buffer is empty an assertion is measured without going over the path.
 #![tactic(auto)]
 
-ghost use Rattle.std.specs.Prelude.{true, ◌&&◌, [], ◌≡◌, ◌+◌, ◌≤◌, ◌<◌, min, max, length, set};
+ghost use Rattle.std.specs.Prelude.{true, [], ◌≡◌, ◌+◌, ◌≤◌, ◌<◌, min, length, set};
 ghost use Rattle.task.specs.Ast.{Constraints};
 ghost use Rattle.task.specs.Decode.{many, dec_pred, dec_constraint};
 ghost use Rattle.path.specs.Offsets.{entries, Leaves};
@@ -21,17 +21,16 @@ use assertion::Kept;
 use output::Out;
 use path::Path;
 use task::ConstraintNode;
-use task_check::Walked;
 
 // The numbers of the parts that are written: from one up to, not including, another.
-#[derive(Clone, Copy)]
+#[derive(Clone, Copy, PartialEq, Eq, Debug)]
 pub struct Range {
     pub from: usize,
     pub to: usize,
 }
 
 // Which parts are written, how many were met, how many bytes were written and how long the longest written part is.
-#[derive(Clone, Copy)]
+#[derive(Clone, Copy, PartialEq, Eq, Debug)]
 pub struct Progress {
     pub range: Range,
     pub seen: usize,
@@ -40,44 +39,24 @@ pub struct Progress {
 }
 
 // Where a walker is, and the progress so far.
-#[derive(Clone, Copy)]
+#[derive(Clone, Copy, PartialEq, Eq, Debug)]
 pub struct Moved {
     pub at: usize,
     pub progress: Progress,
 }
 
 // What a walk of a constraint carries: where it is and the progress so far, and what is kept of the ForAlls around it.
-#[derive(Clone, Copy)]
+#[derive(Clone, Copy, PartialEq, Eq, Debug)]
 pub struct Walk {
     pub moved: Moved,
     pub kept: Kept,
 }
 
 // Constraints in a row: how the walk meets the first, and how many they are.
-#[derive(Clone, Copy)]
+#[derive(Clone, Copy, PartialEq, Eq, Debug)]
 pub struct Row {
     pub from: Walk,
     pub left: u64,
-}
-
-// The larger of two numbers.
-fn greatest(a: usize, b: usize) -> usize
-    ensures { result ≡ max a b }
-{
-    if a < b {
-        return b;
-    }
-    a
-}
-
-// A number in four bytes, or the largest that there is.
-fn narrow(n: usize) -> u32
-    ensures { result ≡ min n most32 }
-{
-    if 4294967295 < n {
-        return 4294967295;
-    }
-    n as u32
 }
 
 // Puts a length into a place of the table, if it has that place.
@@ -85,7 +64,7 @@ fn note(lengths: &mut [u32], i: usize, n: usize)
     ensures { lengths.new ≡ set lengths.old i (min n most32) }
 {
     if i < lengths.len() {
-        lengths[i] = narrow(n);
+        lengths[i] = u32::try_from(n).unwrap_or(u32::MAX);
     }
 }
 
@@ -94,10 +73,7 @@ impl Range {
     pub fn has(self, n: usize) -> bool
         ensures { result ≡ has_in self n }
     {
-        if n < self.from {
-            return false;
-        }
-        n < self.to
+        self.from <= n && n < self.to
     }
 }
 
@@ -106,26 +82,19 @@ impl Moved {
     fn to(self, at: usize) -> Moved
         ensures { (result.at ≡ at) × (result.progress ≡ self.progress) }
     {
-        let progress = self.progress;
-        Moved { at, progress }
+        Moved { at, ..self }
     }
 }
 
 impl Walk {
-    // Behind a head.
-    fn behind(self, moved: Moved) -> Walk
-        ensures { (result.moved ≡ moved) × (result.kept ≡ self.kept) }
-    {
-        let kept = self.kept;
-        Walk { moved, kept }
-    }
-
     // At another position.
     fn to(self, at: usize) -> Walk
         ensures { (result.moved.at ≡ at) × (result.moved.progress ≡ self.moved.progress) × (result.kept ≡ self.kept) }
     {
-        let moved = self.moved;
-        self.behind(moved.to(at))
+        Walk {
+            moved: self.moved.to(at),
+            ..self
+        }
     }
 
     // Constraints in a row, the first at another position.
@@ -143,11 +112,9 @@ impl Walk {
         requires { (self.kept.vars + own.vars ≤ most) × (self.kept.guards + own.guards ≤ most) × (self.kept.count + own.count ≤ most) }
         ensures { (result.moved.at ≡ body) × (result.moved.progress ≡ self.moved.progress) × (result.kept ≡ plus self.kept own) }
     {
-        let moved = self.moved;
-        let kept = self.kept;
         Walk {
-            moved: moved.to(body),
-            kept: kept.plus(own),
+            moved: self.moved.to(body),
+            kept: self.kept.plus(own),
         }
     }
 
@@ -156,11 +123,9 @@ impl Walk {
         requires { Within own self.kept }
         ensures { (result.moved ≡ self.moved) × (result.kept ≡ minus self.kept own) }
     {
-        let moved = self.moved;
-        let kept = self.kept;
         Walk {
-            moved,
-            kept: kept.minus(own),
+            kept: self.kept.minus(own),
+            ..self
         }
     }
 }
@@ -181,24 +146,19 @@ impl Progress {
     pub fn has_next(self) -> bool
         ensures { result ≡ has_in self.range self.seen }
     {
-        let range = self.range;
-        range.has(self.seen)
+        self.range.has(self.seen)
     }
 
     // A part of n bytes was written, and its length is put into the table.
     pub fn placed(self, n: usize, lengths: &mut [u32]) -> Progress
         ensures { (result ≡ placed_is self n) × (lengths.new ≡ noted self.range self.seen n lengths.old) }
     {
-        let range = self.range;
-        let seen = self.seen;
-        let len = self.len;
-        let longest = self.longest;
-        note(lengths, output::room(seen, range.from), n);
+        note(lengths, self.seen.saturating_sub(self.range.from), n);
         Progress {
-            range,
-            seen: output::sum(seen, 1),
-            len: output::sum(len, n),
-            longest: greatest(longest, n),
+            range: self.range,
+            seen: self.seen.saturating_add(1),
+            len: self.len.saturating_add(n),
+            longest: self.longest.max(n),
         }
     }
 
@@ -206,48 +166,40 @@ impl Progress {
     pub fn passed(self) -> Progress
         ensures { result ≡ passed_is self }
     {
-        let range = self.range;
-        let seen = self.seen;
         Progress {
-            range,
-            seen: output::sum(seen, 1),
-            len: self.len,
-            longest: self.longest,
+            seen: self.seen.saturating_add(1),
+            ..self
         }
     }
 }
 
 // Whether the assertion of a head is written: its number is in the range, and it is not literally true.
+#[tactic(auto, unfolding(crate::specs::Walk::wanted))]
 fn is_wanted(s: &[u8], from: Moved, levels: usize) -> bool
     ensures { result ≡ wanted from.progress (dec_pred levels s.now from.at) }
 {
-    let p = from.progress;
-    if p.has_next() {
-        return !task_check::is_literally_true(s, from.at, levels);
-    }
-    false
+    from.progress.has_next() && !task_check::is_literally_true(s, from.at, levels)
 }
 
 // Passes a head whose assertion is not written. One that is literally true has no number.
+#[tactic(auto, using(crate::proofs::Flattening::pred_refused, crate::proofs::Flattening::head_true, crate::proofs::Flattening::head_out))]
 fn pass_head(s: &[u8], from: Moved, levels: usize) -> Moved
     ensures { Passes from (dec_pred levels s.now from.at) result }
 {
-    let at = from.at;
-    let p = from.progress;
-    let walked = task_check::check_pred(s, at, levels);
-    let Walked::Next(_, q) = walked else {
+    let Ok((_, q)) = task_check::check_pred(s, from.at, levels) else {
         return from;
     };
-    if task_check::is_literally_true(s, at, levels) {
+    if task_check::is_literally_true(s, from.at, levels) {
         return from.to(q);
     }
     Moved {
         at: q,
-        progress: p.passed(),
+        progress: from.progress.passed(),
     }
 }
 
 // Measures the assertion of a head from the lengths that are kept of the ForAlls around it.
+#[tactic(auto, using(crate::proofs::Flattening::measured_placed))]
 fn measure_assert(
     s: &[u8],
     from: Moved,
@@ -259,17 +211,15 @@ fn measure_assert(
     requires { Chained s.now enc.now }
     ensures { MeasuredPlaces s.now enc.now kept (dec_pred levels s.now from.at) (writing from.progress [] lengths.old) (writing result.progress [] lengths.new) result.at }
 {
-    let at = from.at;
-    let p = from.progress;
-    let sent = assertion::measure_assert(s, at, levels, kept, enc);
-    let out = sent.out;
+    let sent = assertion::measure_assert(s, from.at, levels, kept, enc);
     Moved {
         at: sent.at,
-        progress: p.placed(out.len, lengths),
+        progress: from.progress.placed(sent.out.len, lengths),
     }
 }
 
 // Puts the assertion of a head behind the last written byte, from the text that is kept of the ForAlls around it.
+#[tactic(auto, using(crate::proofs::Flattening::kept_placed))]
 fn put_assert(
     s: &[u8],
     from: Moved,
@@ -283,12 +233,10 @@ fn put_assert(
     requires { Chained s.now enc.now × (fits (length text.now) kept ≡ true) }
     ensures { KeptPlaces s.now enc.now text.now kept (dec_pred levels s.now from.at) (writing from.progress buf.old lengths.old) (writing result.progress buf.new lengths.new) result.at }
 {
-    let at = from.at;
-    let p = from.progress;
-    let start = output::least(p.len, buf.len());
+    let start = from.progress.len.min(buf.len());
     let sent = assertion::write_assert(
         s,
-        at,
+        from.at,
         levels,
         kept,
         text,
@@ -296,14 +244,14 @@ fn put_assert(
         &mut buf[start..],
         Out::new(),
     );
-    let out = sent.out;
     Moved {
         at: sent.at,
-        progress: p.placed(out.len, lengths),
+        progress: from.progress.placed(sent.out.len, lengths),
     }
 }
 
 // The same from the path and the number of its guards.
+#[tactic(auto, using(crate::proofs::Flattening::path_placed))]
 fn put_long_assert(
     s: &[u8],
     from: Moved,
@@ -318,12 +266,10 @@ fn put_long_assert(
     requires numbers { Numbers s.now (entries path) count }
     ensures { PathPlaces (encoder_in s.now enc.now) (on_path s.now (entries path)) (dec_pred levels s.now from.at) (writing from.progress buf.old lengths.old) (writing result.progress buf.new lengths.new) result.at }
 {
-    let at = from.at;
-    let p = from.progress;
-    let start = output::least(p.len, buf.len());
+    let start = from.progress.len.min(buf.len());
     let sent = assertion::write_long_assert(
         s,
-        at,
+        from.at,
         levels,
         path,
         count,
@@ -331,10 +277,9 @@ fn put_long_assert(
         &mut buf[start..],
         Out::new(),
     );
-    let out = sent.out;
     Moved {
         at: sent.at,
-        progress: p.placed(out.len, lengths),
+        progress: from.progress.placed(sent.out.len, lengths),
     }
 }
 
@@ -342,13 +287,11 @@ fn put_long_assert(
 fn is_enough(kept: Kept, size: usize, room: usize) -> bool
     ensures { result ≡ enough_is size room kept }
 {
-    if room == 0 {
-        return true;
-    }
-    kept.fits(size)
+    room == 0 || kept.fits(size)
 }
 
 // Such a head.
+#[tactic(auto, using(crate::proofs::Flattening::kept_passed, crate::proofs::Flattening::measured_wanted, crate::proofs::Flattening::kept_wanted, crate::proofs::Flattening::enough_room))]
 fn flatten_kept_head(
     s: &[u8],
     from: Moved,
@@ -365,20 +308,10 @@ fn flatten_kept_head(
     if !is_wanted(s, from, levels) {
         return pass_head(s, from, levels);
     }
-    if buf.len() == 0 {
+    if buf.is_empty() {
         return measure_assert(s, from, levels, kept, enc, lengths);
     }
     put_assert(s, from, levels, kept, text, enc, buf, lengths)
-}
-
-// Whether a head stands at a position, if it is asked for.
-fn is_next_head(s: &[u8], at: usize, levels: usize, asked: bool) -> bool
-    ensures { result ≡ (asked && is_head levels s.now at) }
-{
-    if asked {
-        return constraint_check::is_head(s, at, levels);
-    }
-    false
 }
 
 // Such heads in a row, from the first, which is one, to the row's end or to a constraint that is no head.
@@ -396,23 +329,25 @@ fn flatten_heads(
     ensures heads_put { HeadsPut s.now enc.now text.now levels row (writing row.from.moved.progress buf.old lengths.old) result (writing result.from.moved.progress buf.new lengths.new) }
     ensures fewer_left { (result.left < row.left) × (result.from.kept ≡ row.from.kept) }
 {
-    let from = row.from;
-    let kept = from.kept;
-    let mut moved = from.moved;
-    let mut left = row.left;
-    loop {
+    let Walk { mut moved, kept } = row.from;
+    for i in 0..row.left {
         let head = moved.to(moved.at + 1);
         moved = flatten_kept_head(s, head, levels - 1, kept, text, enc, buf, lengths);
-        left -= 1;
-        if !is_next_head(s, moved.at, levels, 0 < left) {
-            break;
+        if !constraint_check::is_head(s, moved.at, levels) {
+            return Row {
+                from: Walk { moved, kept },
+                left: row.left - i - 1,
+            };
         }
     }
-    let walk = Walk { moved, kept };
-    Row { from: walk, left }
+    Row {
+        from: Walk { moved, kept },
+        left: 0,
+    }
 }
 
 // A head of which the assertion is written from the path.
+#[tactic(auto, using(crate::proofs::Flattening::path_passed, crate::proofs::Flattening::path_wanted))]
 fn flatten_head(
     s: &[u8],
     from: Walk,
@@ -426,8 +361,7 @@ fn flatten_head(
     requires numbers { Numbers s.now (entries path) from.kept.count }
     ensures { PutsUnder (head_parts (encoder_in s.now enc.now)) (on_path s.now (entries path)) (dec_pred levels s.now from.moved.at) (writing from.moved.progress buf.old lengths.old) (writing result.progress buf.new lengths.new) result.at }
 {
-    let kept = from.kept;
-    let moved = from.moved;
+    let Walk { moved, kept } = from;
     if is_wanted(s, moved, levels) {
         return put_long_assert(s, moved, levels, path, kept.count, enc, buf, lengths);
     }
@@ -435,6 +369,7 @@ fn flatten_head(
 }
 
 // The constraint at a position, inside the ForAlls of the path.
+#[tactic(auto, using(crate::proofs::Flattening::none_left, crate::proofs::Flattening::node_refused, crate::proofs::Flattening::node_conj, crate::proofs::Flattening::node_for_all, crate::proofs::Flattening::kept_numbers, crate::proofs::Flattening::ready_fewer))]
 #[cycle(constraints)]
 pub fn flatten_constraint(
     s: &[u8],
@@ -455,30 +390,29 @@ pub fn flatten_constraint(
         return from;
     }
     let below = levels - 1;
-    let moved = from.moved;
-    let at = moved.at;
-    let enough = is_enough(from.kept, text.len(), buf.len());
-    if is_next_head(s, at, levels, enough) {
-        let row = flatten_heads(s, from.row(at, 1), levels, text, enc, buf, lengths);
-        return row.from;
+    let at = from.moved.at;
+    if is_enough(from.kept, text.len(), buf.len()) && constraint_check::is_head(s, at, levels) {
+        return flatten_heads(s, from.row(at, 1), levels, text, enc, buf, lengths).from;
     }
-    let node = task::read_constraint_node(s, at);
+    let Ok((node, p)) = task::read_constraint_node(s, at) else {
+        return from;
+    };
     match node {
-        ConstraintNode::Pred(q) => {
-            let head = flatten_head(s, from.to(q), below, path, enc, buf, lengths);
-            from.behind(head)
+        ConstraintNode::Pred => {
+            let moved = flatten_head(s, from.to(p), below, path, enc, buf, lengths);
+            Walk { moved, ..from }
         }
-        ConstraintNode::Conj(n, q) => {
-            flatten_members(s, from.row(q, n), below, path, enc, buf, text, lengths)
+        ConstraintNode::Conj(n) => {
+            flatten_members(s, from.row(p, n), below, path, enc, buf, text, lengths)
         }
-        ConstraintNode::ForAll(q) => {
-            flatten_for_all(s, from.to(q), below, path, enc, buf, text, lengths)
+        ConstraintNode::ForAll => {
+            flatten_for_all(s, from.to(p), below, path, enc, buf, text, lengths)
         }
-        ConstraintNode::Refused => from,
     }
 }
 
 // Constraints in a row, each inside the same ForAlls. Heads for which what is kept is enough need no copy of the path.
+#[tactic(auto, using(crate::proofs::Flattening::members_start, crate::proofs::Flattening::members_more, crate::proofs::Flattening::members_end, crate::proofs::Flattening::ready_stays))]
 #[cycle(constraints)]
 fn flatten_members(
     s: &[u8],
@@ -495,30 +429,23 @@ fn flatten_members(
     ensures restores { Restores row.from result }
     ensures stays { Stays row.from.kept text.old text.new }
 {
-    let from = row.from;
-    let mut moved = from.moved;
-    let mut kept = from.kept;
-    let mut left = row.left;
-    let enough = is_enough(kept, text.len(), buf.len());
+    let Row { mut from, mut left } = row;
+    let enough = is_enough(from.kept, text.len(), buf.len());
     while 0 < left {
-        let walk = Walk { moved, kept };
-        if is_next_head(s, moved.at, levels, enough) {
-            let heads = Row { from: walk, left };
-            let rest = flatten_heads(s, heads, levels, text, enc, buf, lengths);
-            let behind = rest.from;
-            moved = behind.moved;
+        if enough && constraint_check::is_head(s, from.moved.at, levels) {
+            let rest = flatten_heads(s, Row { from, left }, levels, text, enc, buf, lengths);
+            from = rest.from;
             left = rest.left;
-            continue;
+        } else {
+            from = flatten_constraint(s, from, levels, path, enc, buf, text, lengths);
+            left -= 1;
         }
-        let next = flatten_constraint(s, walk, levels, path, enc, buf, text, lengths);
-        moved = next.moved;
-        kept = next.kept;
-        left -= 1;
     }
-    Walk { moved, kept }
+    from
 }
 
 // A ForAll behind its code: its body is inside it too. What it has is added for the body, and taken back behind it.
+#[tactic(auto, using(crate::proofs::Flattening::for_all_unheaded, crate::proofs::Flattening::for_all_puts, crate::proofs::Flattening::header_offset, crate::proofs::Flattening::ready_pushed, crate::proofs::Flattening::own_within, crate::proofs::Flattening::own_back))]
 #[cycle(constraints)]
 fn flatten_for_all(
     s: &[u8],
@@ -535,10 +462,8 @@ fn flatten_for_all(
     ensures restores { Restores from result }
     ensures stays { Stays from.kept text.old text.new }
 {
-    let moved = from.moved;
-    let at = moved.at;
-    let header = constraint_check::check_header(s, at, levels);
-    let Walked::Next(_, body) = header else {
+    let at = from.moved.at;
+    let Ok((_, body)) = constraint_check::check_header(s, at, levels) else {
         return from;
     };
     let own = assertion::extend(s, at, enc, text, from.kept);

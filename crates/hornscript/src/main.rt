@@ -5,5 +5,5 @@
 fn main() {
     let mut input = io::large_buffer();
     let n = io::read_full(0, &mut input);
-    console::print_script(&input[..n]);
+    let _ = console::print_script(&input[..n]);
 }

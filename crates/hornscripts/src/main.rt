@@ -2,88 +2,60 @@
 // `hornscript` writes. It reads at most 4,096 files of at most 65,535 bytes.
 #![tactic(auto)]
 
-ghost use Rattle.std.specs.Prelude.{◌≤◌};
-
-use smt_horn::Surveyed;
+use smt_horn::Sizes;
 use smt_text::Edition;
-use task::Number;
 
 // Standard output.
 const STDOUT_FILENO: i32 = 1;
 
 fn main() {
-    let mut left: usize = 4096;
-    let mut number: u64 = 0;
-    while 0 < left {
-        if print_next(number) {
-            left -= 1;
-            number += 1;
-        } else {
-            left = 0;
-        }
-    }
-}
-
-// The next file, if there is one.
-fn print_next(number: u64) -> bool {
-    let mut head = [0u8; 4];
-    let n = io::read_full(0, &mut head);
-    if n < 4 {
-        return false;
-    }
-    let read = task::number_at(&head, 0, 4);
-    let Number::Value(size, _) = read else {
-        return false;
-    };
-    if 65535 < size {
-        return false;
-    }
-    print_sized(number, size as usize)
-}
-
-// A file of that many bytes, if they are there.
-fn print_sized(number: u64, n: usize) -> bool
-    requires { n ≤ 65535 }
-{
     let mut buffer = io::large_buffer();
-    print_from(number, &mut buffer[..n])
+    for number in 0..4096 {
+        let Some(file) = next_file(&mut buffer) else {
+            return;
+        };
+        print_file(number, file);
+    }
 }
 
-// A file that fills the slice.
-fn print_from(number: u64, file: &mut [u8]) -> bool {
-    let n = file.len();
-    let m = io::read_full(0, file);
-    if m < n {
-        return false;
+// The next file, put into the buffer, if there is one.
+fn next_file(buffer: &mut [u8]) -> Option<&[u8]> {
+    let mut head = [0u8; 4];
+    if io::read_full(0, &mut head) < 4 {
+        return None;
     }
-    print_file(number, file);
-    true
+    let size = u32::from_le_bytes(head) as usize;
+    if 65535 < size {
+        return None;
+    }
+    let file = buffer.get_mut(..size)?;
+    if io::read_full(0, file) < size {
+        return None;
+    }
+    Some(file)
 }
 
 // The line of survey's answer, then the script or the refusal.
 fn print_file(number: u64, file: &[u8]) {
     io::write_all(STDOUT_FILENO, b"file ");
-    io::print_decimal(STDOUT_FILENO, number);
-    io::write_all(STDOUT_FILENO, b": ");
-    print_answer(smt_horn::survey(file, Edition::Z3));
-    console::print_script(file);
-}
-
-fn print_answer(a: Surveyed) {
-    match a {
-        Surveyed::Sizes(parts, assertions, len, longest) => {
-            print_counted(parts as u64, b" parts, ");
-            print_counted(assertions as u64, b" assertions, ");
-            print_counted(len as u64, b" bytes, longest ");
-            print_counted(longest as u64, b"\n");
-        }
-        Surveyed::Refused(n) => {
-            console::print_refused(n);
+    print_counted(number, b": ");
+    match smt_horn::survey(file, Edition::Z3) {
+        Ok(sizes) => print_sizes(sizes),
+        Err(refusal) => {
+            let _ = console::print_refused(refusal);
         }
     }
+    let _ = console::print_script(file);
 }
 
-// A number and what it counts.
+fn print_sizes(sizes: Sizes) {
+    print_counted(sizes.parts as u64, b" parts, ");
+    print_counted(sizes.assertions as u64, b" assertions, ");
+    print_counted(sizes.len as u64, b" bytes, longest ");
+    print_counted(sizes.longest as u64, b"\n");
+}
+
+// A number and what stands behind it.
 fn print_counted(n: u64, what: &[u8]) {
     io::print_decimal(STDOUT_FILENO, n);
     io::write_all(STDOUT_FILENO, what);

@@ -1,4 +1,5 @@
 -- The names of a task whose pieces are without fault: what `inspect` adds up to.
+use Rattle.std.specs.Prelude.{Result, Ok, Err}
 use mathlib.Core.Path.{◌≡◌, refl, sym, ap, ◌∙◌, subst⁻¹}
 use mathlib.Core.Bool.{Bool, true, false, cond}
 use mathlib.Core.List.{List}
@@ -21,8 +22,7 @@ use Rattle.names.proofs.Theorems.{blank_chained}
 use Rattle.declared.specs.Symbols.{symbols_of}
 use Rattle.scope.specs.Judged.{Sectioned, NamesJudged}
 use Rattle.inspect.specs.declared.Inspected.{Inspected}
-use Rattle.inspect.specs.declared.Inspected.TheVariants as inspected_is
-use Rattle.inspect.specs.Inspect.{inspected_of, Room, Names}
+use Rattle.inspect.specs.Inspect.{sizes_of, inspected_of, Room, Names}
 use Rattle.inspect.specs.Walk.{judge, sound_of}
 
 -- names are judged last
@@ -73,27 +73,34 @@ pub record Checked (file : List ℕ) (b : Bounds) (d h : ℕ) : Type 0 where
   pub number : d ≡ declarations task
   pub heads : h ≡ heads_of task.constraint
 
-module _ (file : List ℕ) (v : Inspected) (e : v ≡ inspected_of file (sound_of file)) where
-  pub checked : (b : Bounds) (d h : ℕ) → v ≡ inspected_is.Task b d h → Checked file b d h
-  checked b d h e' = go (sound_of file) refl
-    where
-      go : (x : Res Task) → sound_of file ≡ x → Checked file b d h
-      go (got t end) u =
-          let y : inspected_is.Task b d h ≡ inspected_is.Task (bounds_of file) (declarations t) (heads_of t.constraint) = sym e' ∙ e ∙ ap (inspected_of file) u in
-          record { task = t; end = end; held = u; bounds = cc; number = cc; heads = cc }
-      go (refuse m) u = let y : inspected_is.Task b d h ≡ inspected_is.Refused m = sym e' ∙ e ∙ ap (inspected_of file) u in clash (cc)
+pub checked : (file : List ℕ) (i : Inspected) → Ok i ≡ inspected_of file (sound_of file) → Checked file i.bounds i.declarations i.heads
+checked file i e = go (sound_of file) refl
+  where
+    go : (x : Res Task) → sound_of file ≡ x → Checked file i.bounds i.declarations i.heads
+    go (got t end) u =
+        let y : Ok i ≡ Ok (sizes_of (bounds_of file) (declarations t) (heads_of t.constraint)) = e ∙ ap (inspected_of file) u in
+        let z : i ≡ sizes_of (bounds_of file) (declarations t) (heads_of t.constraint) = cc in
+        record {
+          task = t;
+          end = end;
+          held = u;
+          bounds = ap (λ (j : Inspected). j.bounds) z;
+          number = ap (λ (j : Inspected). j.declarations) z;
+          heads = ap (λ (j : Inspected). j.heads) z;
+        }
+    go (refuse m) u = let y : Ok i ≡ Err m = e ∙ ap (inspected_of file) u in clash (cc)
 
-  -- a file that is refused before, with a table that nothing was put into
-  pub refused_before : (table : List ℕ) → Room file table → (n : ℕ) → v ≡ inspected_is.Refused n → (v ≡ inspected_of file (task_of file)) × Names file table
-  refused_before table r n e' = go (sound_of file) refl
-    where
-      go : (x : Res Task) → sound_of file ≡ x → (v ≡ inspected_of file (task_of file)) × Names file table
-      go (got t end) u =
-          let y : inspected_is.Refused n ≡ inspected_is.Task (bounds_of file) (declarations t) (heads_of t.constraint) = sym e' ∙ e ∙ ap (inspected_of file) u in
-          clash (cc)
-      go (refuse m) u =
-          let h : task_of file ≡ refuse m = names_last file ∙ ap (λ (x : Res Task). bind x (judged_by names_fault)) u in
-          (e ∙ ap (inspected_of file) (u ∙ sym h), record { chained = blank_chained file table r.blank; are = λ t end g. got_refuse (sym g ∙ h) })
+-- a file that is refused before, with a table that nothing was put into
+pub refused_before : (file table : List ℕ) → Room file table → (n : ℕ) → Err n ≡ inspected_of file (sound_of file) → (Err n ≡ inspected_of file (task_of file)) × Names file table
+refused_before file table r n e = go (sound_of file) refl
+  where
+    go : (x : Res Task) → sound_of file ≡ x → (Err n ≡ inspected_of file (task_of file)) × Names file table
+    go (got t end) u =
+        let y : Err n ≡ Ok (sizes_of (bounds_of file) (declarations t) (heads_of t.constraint)) = e ∙ ap (inspected_of file) u in
+        clash (cc)
+    go (refuse m) u =
+        let h : task_of file ≡ refuse m = names_last file ∙ ap (λ (x : Res Task). bind x (judged_by names_fault)) u in
+        (e ∙ ap (inspected_of file) (u ∙ sym h), record { chained = blank_chained file table r.blank; are = λ t end g. got_refuse (sym g ∙ h) })
 
 module _ (file : List ℕ) (b : Bounds) (d h : ℕ) (k : Checked file b d h) where
   pub checked_inside : Inside file b
@@ -126,7 +133,7 @@ module _ (file : List ℕ) (b : Bounds) (d h : ℕ) (k : Checked file b d h) whe
       go n true z = same_value z
       go n false z = got_refuse (sym z)
 
-  pub names_answer : (f : Fault) (u : List ℕ) (v : Inspected) → NamesJudged file f u → v ≡ judge b d h f → (v ≡ inspected_of file (task_of file)) × Names file u
+  pub names_answer : (f : Fault) (u : List ℕ) (v : Result Inspected ℕ) → NamesJudged file f u → v ≡ judge b d h f → (v ≡ inspected_of file (task_of file)) × Names file u
   names_answer f u v g e =
       let j = g.are k.task k.end (sound_has file k.task k.end k.held).decoded in
       (e ∙ ap (judge b d h) j.0 ∙ answers, record { chained = g.chained; are = λ t' end' q. j.1 ∙ ap symbols_of (same_task t' end' q) })
@@ -135,6 +142,6 @@ module _ (file : List ℕ) (b : Bounds) (d h : ℕ) (k : Checked file b d h) whe
       answers = rw (k.bounds, k.number, k.heads, answered) (go (refusal_of (names_fault k.task)) (eqb (refusal_of (names_fault k.task)) 0))
         where
           go : (n : ℕ) (c : Bool)
-              → cond c (inspected_is.Task (bounds_of file) (declarations k.task) (heads_of k.task.constraint)) (inspected_is.Refused n) ≡ inspected_of file (cond c (got k.task k.end) (refuse n))
+              → cond c (Ok (sizes_of (bounds_of file) (declarations k.task) (heads_of k.task.constraint))) (Err n) ≡ inspected_of file (cond c (got k.task k.end) (refuse n))
           go n true = refl
           go n false = refl

@@ -1,4 +1,5 @@
 -- The answer for the whole file is put together from the walks of its sections.
+use Rattle.std.specs.Prelude.{Result, Ok, Err}
 use mathlib.Core.Path.{◌≡◌, refl, sym, ap, subst, ◌∙◌}
 use mathlib.Core.Bool.{Bool, true, false, cond}
 use mathlib.Core.List.{List, []}
@@ -19,17 +20,17 @@ use Rattle.constraint_check.specs.Tally.{tally}
 use Rattle.item_check.specs.declared.Section.TheVariants.{Comments, Datatypes, Constants, Functions, KVars}
 use Rattle.item_check.specs.Items.{item_walk}
 use Rattle.trailer.specs.declared.Bounds.{Bounds}
-use Rattle.trailer.specs.declared.Trailer.{Trailer}
-use Rattle.trailer.specs.declared.Trailer.TheVariants as trailer_is
 use Rattle.trailer.specs.Bounds.{bounds_of, Inside, trailer_of}
-use Rattle.trailer.proofs.Trailers.{framed_is, trailer_none, trailer_read}
-use Rattle.inspect.specs.declared.Listed.{Listed}
-use Rattle.inspect.specs.declared.Listed.TheVariants as listed_is
+use Rattle.trailer.proofs.Trailers.{framed_is}
 use Rattle.inspect.specs.declared.Inspected.{Inspected}
-use Rattle.inspect.specs.declared.Inspected.TheVariants as inspected_is
-use Rattle.inspect.specs.Inspect.{inspected_of}
-use Rattle.inspect.specs.Walk.{join, walk_items, listed, uncounted, section_of, items_of, judge, conclude, finish, sound_of}
-use Rattle.inspect.proofs.Sections.{listed_walks, items_most}
+use Rattle.task.specs.declared.Refusal.{Refusal}
+use Rattle.task.specs.declared.Refusal.TheVariants.{Trailer}
+use Rattle.task.specs.Node.{number_of}
+use Rattle.smtlib.proofs.Bools.{clash}
+use borrow.Author.Tests.{eq-eqb, ne_eqb}
+use Rattle.inspect.specs.Inspect.{sizes_of, inspected_of}
+use Rattle.inspect.specs.Walk.{Listed, join, walk_items, listed, uncounted, section_of, items_of, judge, conclude, finish, sound_of}
+use Rattle.inspect.proofs.Sections.{counts, listed_walks, items_most}
 
 -- comments are not counted
 abbrev taken : Section → Listed → Listed
@@ -49,30 +50,37 @@ section_is Functions s at = listed_walks function_fault function s (length s) at
 section_is KVars s at = listed_walks kvar_fault kvar s (length s) at
 
 -- the code's answer for a section
-module _ (k : Section) (s : List ℕ) (at : ℕ) (v : Listed) (e : v ≡ walk_items (length s) (item_walk k s) (length s) at) where
-  pub part_counted : (k ≡ Comments → ⊥) → v ≡ section_of k s at
-  part_counted o = e ∙ sym (section_is k s at ∙ go k o (walk_items (length s) (item_walk k s) (length s) at))
+module _ (k : Section) (s : List ℕ) (at : ℕ) where
+  abbrev walk : Listed
+  walk = walk_items (length s) (item_walk k s) (length s) at
+
+  pub part_refused : (j : ℕ) → Err j ≡ walk → Err j ≡ section_of k s at
+  part_refused j e = sym (section_is k s at ∙ ap (taken k) (sym e) ∙ go k)
     where
-      go : (k : Section) → (k ≡ Comments → ⊥) → (x : Listed) → taken k x ≡ x
-      go Comments o x = absurd (o refl)
-      go Datatypes o x = refl
-      go Constants o x = refl
-      go Functions o x = refl
-      go KVars o x = refl
+      go : (k : Section) → taken k (Err j) ≡ Err j
+      go Comments = refl
+      go Datatypes = refl
+      go Constants = refl
+      go Functions = refl
+      go KVars = refl
 
-  module _ (c : k ≡ Comments) where
-    as_comments : section_of k s at ≡ uncounted v
-    as_comments = section_is k s at ∙ ap (λ (j : Section). taken j (walk_items (length s) (item_walk k s) (length s) at)) c ∙ ap uncounted (sym e)
+  module _ (n : ℕ) (f : Fault) (e : Ok (n, f) ≡ walk) where
+    pub part_counted : (k ≡ Comments → ⊥) → Ok (n, f) ≡ section_of k s at
+    part_counted o = sym (section_is k s at ∙ ap (taken k) (sym e) ∙ go k o)
+      where
+        go : (k : Section) → (k ≡ Comments → ⊥) → taken k (Ok (n, f)) ≡ Ok (n, f)
+        go Comments o = absurd (o refl)
+        go Datatypes o = refl
+        go Constants o = refl
+        go Functions o = refl
+        go KVars o = refl
 
-    pub part_refused : (j : ℕ) → v ≡ listed_is.Refused j → v ≡ section_of k s at
-    part_refused j e' = e' ∙ sym (as_comments ∙ ap uncounted e')
-
-    pub part_comments : (n : ℕ) (f : Fault) → v ≡ listed_is.Items n f → listed_is.Items 0 f ≡ section_of k s at
-    part_comments n f e' = sym (as_comments ∙ ap uncounted e')
+    pub part_comments : k ≡ Comments → Ok (0, f) ≡ section_of k s at
+    part_comments c = sym (section_is k s at ∙ ap (taken k) (sym e) ∙ ap (λ (j : Section). taken j (Ok (n, f))) c)
 
 -- a section has no more items than the file has bytes
-pub section_most : (k : Section) (file : List ℕ) (end at : ℕ) (v : Listed) (n : ℕ) (f : Fault) → length file ≤ 60000 → v ≡ section_of k (take end file) at → v ≡ listed_is.Items n f → n ≤ 60000
-section_most k file end at v n f h e e' = go k (walk_items (length s) (item_walk k s) (length s) at) (sym e' ∙ e ∙ section_is k s at) (λ m g u. items_most (length s) (item_walk k s) (length s) at m g u)
+pub section_most : (k : Section) (file : List ℕ) (end at n : ℕ) (f : Fault) → length file ≤ 60000 → Ok (n, f) ≡ section_of k (take end file) at → n ≤ 60000
+section_most k file end at n f h e = go k (walk_items (length s) (item_walk k s) (length s) at) (e ∙ section_is k s at) (λ m g u. items_most (length s) (item_walk k s) (length s) at m g u)
   where
     s : List ℕ
     s = take end file
@@ -80,9 +88,9 @@ section_most k file end at v n f h e e' = go k (walk_items (length s) (item_walk
     few : length (take end file) ≤ 60000
     few = rw (length-take end file) (omega arith)
 
-    go : (k : Section) (x : Listed) → listed_is.Items n f ≡ taken k x → ((m : ℕ) (g : Fault) → listed_is.Items m g ≡ x → m ≤ length (take end file)) → n ≤ 60000
-    go Comments (listed_is.Items m g) e l = let z : n ≡ 0 = cc in omega arith
-    go Comments (listed_is.Refused j) e l = absurd (let z : ◌≡◌ {A = ℕ} 0 1 = cc in omega arith)
+    go : (k : Section) (x : Listed) → Ok (n, f) ≡ taken k x → ((m : ℕ) (g : Fault) → Ok (m, g) ≡ x → m ≤ length (take end file)) → n ≤ 60000
+    go Comments (Ok (m, g)) e l = let z : n ≡ 0 = ap counts e in omega arith
+    go Comments (Err j) e l = absurd (let z : ◌≡◌ {A = ℕ} 0 1 = cc in omega arith)
     go Datatypes x e l = let z = l n f e in let y = few in omega arith
     go Constants x e l = let z = l n f e in let y = few in omega arith
     go Functions x e l = let z = l n f e in let y = few in omega arith
@@ -90,33 +98,28 @@ section_most k file end at v n f h e e' = go k (walk_items (length s) (item_walk
 
 -- five sections one after another: the first refusal, or all of them
 module _ (file : List ℕ) (b : Bounds) where
-  module _ (v0 : Listed) (e0 : v0 ≡ section_of Comments (take b.datatypes file) b.comments) where
-    pub stops_0 : (j : ℕ) → v0 ≡ listed_is.Refused j → v0 ≡ items_of file b
-    stops_0 j u = rw (sym e0 ∙ u) u
+  pub stops_0 : (j : ℕ) → Err j ≡ section_of Comments (take b.datatypes file) b.comments → Err j ≡ items_of file b
+  stops_0 j e = rw (← e)
 
-    module _ (n0 : ℕ) (f0 : Fault) (u0 : v0 ≡ listed_is.Items n0 f0) where
-      module _ (v1 : Listed) (e1 : v1 ≡ section_of Datatypes (take b.constants file) b.datatypes) where
-        pub stops_1 : (j : ℕ) → v1 ≡ listed_is.Refused j → v1 ≡ items_of file b
-        stops_1 j u = rw (sym e0 ∙ u0, sym e1 ∙ u) u
+  module _ (n0 : ℕ) (f0 : Fault) (e0 : Ok (n0, f0) ≡ section_of Comments (take b.datatypes file) b.comments) where
+    pub stops_1 : (j : ℕ) → Err j ≡ section_of Datatypes (take b.constants file) b.datatypes → Err j ≡ items_of file b
+    stops_1 j e = rw (← e0, ← e)
 
-        module _ (n1 : ℕ) (f1 : Fault) (u1 : v1 ≡ listed_is.Items n1 f1) where
-          module _ (v2 : Listed) (e2 : v2 ≡ section_of Constants (take b.functions file) b.constants) where
-            pub stops_2 : (j : ℕ) → v2 ≡ listed_is.Refused j → v2 ≡ items_of file b
-            stops_2 j u = rw (sym e0 ∙ u0, sym e1 ∙ u1, sym e2 ∙ u) u
+    module _ (n1 : ℕ) (f1 : Fault) (e1 : Ok (n1, f1) ≡ section_of Datatypes (take b.constants file) b.datatypes) where
+      pub stops_2 : (j : ℕ) → Err j ≡ section_of Constants (take b.functions file) b.constants → Err j ≡ items_of file b
+      stops_2 j e = rw (← e0, ← e1, ← e)
 
-            module _ (n2 : ℕ) (f2 : Fault) (u2 : v2 ≡ listed_is.Items n2 f2) where
-              module _ (v3 : Listed) (e3 : v3 ≡ section_of Functions (take b.kvars file) b.functions) where
-                pub stops_3 : (j : ℕ) → v3 ≡ listed_is.Refused j → v3 ≡ items_of file b
-                stops_3 j u = rw (sym e0 ∙ u0, sym e1 ∙ u1, sym e2 ∙ u2, sym e3 ∙ u) u
+      module _ (n2 : ℕ) (f2 : Fault) (e2 : Ok (n2, f2) ≡ section_of Constants (take b.functions file) b.constants) where
+        pub stops_3 : (j : ℕ) → Err j ≡ section_of Functions (take b.kvars file) b.functions → Err j ≡ items_of file b
+        stops_3 j e = rw (← e0, ← e1, ← e2, ← e)
 
-                module _ (n3 : ℕ) (f3 : Fault) (u3 : v3 ≡ listed_is.Items n3 f3) where
-                  module _ (v4 : Listed) (e4 : v4 ≡ section_of KVars (take b.constraint file) b.kvars) where
-                    pub stops_4 : (j : ℕ) → v4 ≡ listed_is.Refused j → v4 ≡ items_of file b
-                    stops_4 j u = rw (sym e0 ∙ u0, sym e1 ∙ u1, sym e2 ∙ u2, sym e3 ∙ u3, sym e4 ∙ u) u
+        module _ (n3 : ℕ) (f3 : Fault) (e3 : Ok (n3, f3) ≡ section_of Functions (take b.kvars file) b.functions) where
+          pub stops_4 : (j : ℕ) → Err j ≡ section_of KVars (take b.constraint file) b.kvars → Err j ≡ items_of file b
+          stops_4 j e = rw (← e0, ← e1, ← e2, ← e3, ← e)
 
-                    pub all_five : (n4 : ℕ) (f4 : Fault) (n : ℕ) (f : Fault) → v4 ≡ listed_is.Items n4 f4 → n ≡ n0 + (n1 + (n2 + (n3 + n4))) → f ≡ lower f0 (lower f1 (lower f2 (lower f3 f4)))
-                        → listed_is.Items n f ≡ items_of file b
-                    all_five n4 f4 n f u4 w w' = rw (sym e0 ∙ u0, sym e1 ∙ u1, sym e2 ∙ u2, sym e3 ∙ u3, sym e4 ∙ u4, w, w')
+          pub all_five : (n4 : ℕ) (f4 g3 g2 g1 f : Fault) → Ok (n4, f4) ≡ section_of KVars (take b.constraint file) b.kvars
+              → g3 ≡ lower f3 f4 → g2 ≡ lower f2 g3 → g1 ≡ lower f1 g2 → f ≡ lower f0 g1 → Ok (n0 + (n1 + (n2 + (n3 + n4))), f) ≡ items_of file b
+          all_five n4 f4 g3 g2 g1 f e4 u3 u2 u1 u = rw (← e0, ← e1, ← e2, ← e3, ← e4, u, u1, u2, u3)
 
 -- the whole chain
 module _ (file : List ℕ) where
@@ -143,7 +146,7 @@ module _ (file : List ℕ) where
       → inspected_of file (judged_by task_fault t end) ≡ judge (bounds_of file) n h f
   judges t end n h f e u u' = rw (e, u, u') (go (eqb (refusal_of f) 0))
     where
-      go : (b : Bool) → inspected_of file (cond b (got t end) (refuse (refusal_of f))) ≡ cond b (inspected_is.Task (bounds_of file) (length t.datatypes + length t.constants + length t.functions + length t.kvars) (heads_of t.constraint)) (inspected_is.Refused (refusal_of f))
+      go : (b : Bool) → inspected_of file (cond b (got t end) (refuse (refusal_of f))) ≡ cond b (Ok (sizes_of (bounds_of file) (length t.datatypes + length t.constants + length t.functions + length t.kvars) (heads_of t.constraint))) (Err (refusal_of f))
       go true = refl
       go false = refl
 
@@ -165,7 +168,7 @@ module _ (file : List ℕ) where
       fault = lower (lower (each text_fault a) (lower (each datatype_fault b) (lower (each binder_fault c) (lower (each function_fault d) (each kvar_fault e))))) (constraint_fault [] f)
 
       go : (t : Bool) → inspected_of file (bind (cond t (got whole v) (refuse 2)) (judged_by task_fault))
-          ≡ cond t (judge (bounds_of file) (0 + (length b + (length c + (length d + length e)))) (heads_of f) fault) (inspected_is.Refused 2)
+          ≡ cond t (judge (bounds_of file) (0 + (length b + (length c + (length d + length e)))) (heads_of f) fault) (Err 2)
       go true = judges whole v (0 + (length b + (length c + (length d + length e)))) (heads_of f) fault
           (regroup (each text_fault a) (each datatype_fault b) (each binder_fault c) (each function_fault d) (each kvar_fault e) (constraint_fault [] f))
           (sym (count (length b) (length c) (length d) (length e))) refl
@@ -177,36 +180,54 @@ module _ (file : List ℕ) where
   whole_is e =
       rw e (chains (within file 0 (section comment)) (within file 1 (section datatype)) (within file 2 (section constant)) (within file 3 (section function)) (within file 4 (section kvar)) (within file 5 (dec_constraint deepest)))
 
-  pub unframed : framed file ≡ false → inspected_is.Refused 1 ≡ inspected_of file (sound_of file)
+  pub unframed : framed file ≡ false → Err 1 ≡ inspected_of file (sound_of file)
   unfolding sound_of
   unframed e = rw e
 
-  module _ (r : Trailer) (e : r ≡ trailer_of file) where
-    pub pieces_unframed : r ≡ trailer_is.Refused → inspected_is.Refused 1 ≡ inspected_of file (sound_of file)
-    pieces_unframed e' = unframed (trailer_none file r e e')
+  -- what read_trailer answered
+  by_trailer : (x : Result Bounds Refusal) → x ≡ trailer_of file → {C : Type 0} → (framed file ≡ true → x ≡ Ok (bounds_of file) → C) → (framed file ≡ false → x ≡ Err Trailer → C) → C
+  by_trailer x e {C = C} read none = go (framed file) refl
+    where
+      go : (t : Bool) → framed file ≡ t → C
+      go true u = read u (e ∙ rw u)
+      go false u = none u (e ∙ rw u)
 
-    module _ (b : Bounds) (e' : r ≡ trailer_is.Read b) where
-      pub pieces_inside : Inside file b
-      pieces_inside = let h = trailer_read file r e b e' in subst (Inside file) (sym h.1) (framed_is file h.0)
+  pub pieces_unframed : (r : Refusal) → Err r ≡ trailer_of file → Err (number_of r) ≡ inspected_of file (sound_of file)
+  pieces_unframed r e = by_trailer (Err r) e (λ u h. clash (cc)) (λ u h. let z : r ≡ Trailer = cc in rw z (unframed u))
 
-      -- two bytes hold each offset of the constraint
-      pub pieces_short : length (take b.end file) < 65536
-      pieces_short = let m = pieces_inside.most in let l = length-take b.end file in omega arith
+  module _ (b : Bounds) (e : Ok b ≡ trailer_of file) where
+    framed_at : (framed file ≡ true) × (b ≡ bounds_of file)
+    framed_at = by_trailer (Ok b) e (λ u h. (u, cc)) (λ u h. clash (cc))
 
-      by_parts : (l : Listed) (c : Counted) → l ≡ items_of file b → c ≡ tally (constraint_fault []) heads_of (dec_constraint deepest (take b.end file) b.constraint)
-          → finish b l c ≡ inspected_of file (sound_of file)
-      by_parts l c u u' =
-          let h = trailer_read file r e b e' in
-          ap (λ (x : Listed). finish b x c) u ∙ ap (finish b (items_of file b)) u'
-          ∙ ap (λ (z : Bounds). finish z (items_of file z) (tally (constraint_fault []) heads_of (dec_constraint deepest (take z.end file) z.constraint))) h.1
-          ∙ sym (whole_is h.0)
+    pub pieces_inside : Inside file b
+    pieces_inside = subst (Inside file) (sym framed_at.1) (framed_is file framed_at.0)
 
-      pub pieces_refused : (l : Listed) (k : ℕ) → l ≡ items_of file b → l ≡ listed_is.Refused k → inspected_is.Refused k ≡ inspected_of file (sound_of file)
-      pieces_refused l k u u' =
-          let c = tally (constraint_fault []) heads_of (dec_constraint deepest (take b.end file) b.constraint) in
-          sym (ap (λ (x : Listed). finish b x c) u') ∙ by_parts l c u refl
+    -- two bytes hold each offset of the constraint
+    pub pieces_short : length (take b.end file) < 65536
+    pieces_short = let m = pieces_inside.most in let l = length-take b.end file in omega arith
 
-      pub pieces_concludes : (l : Listed) (n : ℕ) (f : Fault) (c : Counted) (w : Inspected) → l ≡ items_of file b → l ≡ listed_is.Items n f
-          → c ≡ tally (constraint_fault []) heads_of (dec_constraint deepest (take b.end file) b.constraint) → w ≡ conclude b n f c.walked c.heads
-          → w ≡ inspected_of file (sound_of file)
-      pieces_concludes l n f c w u u' k m = m ∙ sym (ap (λ (x : Listed). finish b x c) u') ∙ by_parts l c u k
+    abbrev counted : Res Counted
+    counted = tally (constraint_fault []) heads_of (dec_constraint deepest (take b.end file) b.constraint)
+
+    by_parts : (l : Listed) → l ≡ items_of file b → finish b l counted ≡ inspected_of file (sound_of file)
+    by_parts l u =
+        ap (λ (x : Listed). finish b x counted) u
+        ∙ ap (λ (z : Bounds). finish z (items_of file z) (tally (constraint_fault []) heads_of (dec_constraint deepest (take z.end file) z.constraint))) framed_at.1
+        ∙ sym (whole_is framed_at.0)
+
+    pub pieces_refused : (k : ℕ) → Err k ≡ items_of file b → Err k ≡ inspected_of file (sound_of file)
+    pieces_refused k u = by_parts (Err k) u
+
+    module _ (n : ℕ) (f : Fault) (u : Ok (n, f) ≡ items_of file b) where
+      by_count : (c : Res Counted) → c ≡ counted → conclude b n f c ≡ inspected_of file (sound_of file)
+      by_count c v = ap (conclude b n f) v ∙ by_parts (Ok (n, f)) u
+
+      pub pieces_stop : (k : ℕ) → refuse k ≡ counted → Err k ≡ inspected_of file (sound_of file)
+      pieces_stop k v = by_count (refuse k) v
+
+      module _ (c : Counted) (p : ℕ) (v : got c p ≡ counted) where
+        pub pieces_left : (p ≡ b.end → ⊥) → Err 2 ≡ inspected_of file (sound_of file)
+        pieces_left o = rw (ne_eqb p b.end o) at (by_count (got c p) v)
+
+        pub pieces_judged : (w : Result Inspected ℕ) → p ≡ b.end → w ≡ judge b n c.heads (lower f c.fault) → w ≡ inspected_of file (sound_of file)
+        pieces_judged w o h = h ∙ rw (eq-eqb p b.end o) at (by_count (got c p) v)

@@ -1,47 +1,54 @@
--- What the steps of `inspect` answer. Only contracts of inner functions speak of them.
-use Rattle.std.specs.Prelude.{ℕ, zero, suc, ◌+◌, cond, List, leb, eqb, length, take}
+-- What the steps of `inspect` answer. Only contracts of inner functions speak of them; `conclude` and `finish` are steps of their proofs.
+use Rattle.std.specs.Prelude.{Result, Ok, Err, Option, Some, None, ℕ, zero, suc, ◌+◌, cond, List, leb, eqb, length, take}
 use Rattle.task.specs.declared.Fault.{Fault}
 use Rattle.task.specs.declared.Fault.TheVariants.{Sound}
 use Rattle.task.specs.Ast.{Task}
 use Rattle.task.specs.Decode.{Res, got, refuse, bind, section, comment, datatype, constant, function, kvar}
 use Rattle.task.specs.Fault.{lower, each, refusal_of, text_fault, datatype_fault, binder_fault, function_fault, kvar_fault, task_fault}
 use Rattle.task.specs.Task.{framed, decoded, judged_by}
-use Rattle.task_check.specs.declared.Walked.{Walked}
-use Rattle.task_check.specs.declared.Walked.TheVariants as walked_is
 use Rattle.constraint_check.specs.declared.Counted.{Counted}
 use Rattle.item_check.specs.declared.Section.{Section}
 use Rattle.item_check.specs.declared.Section.TheVariants.{Comments, Datatypes, Constants, Functions, KVars}
 use Rattle.trailer.specs.declared.Bounds.{Bounds}
-use Rattle.inspect.specs.declared.Listed.{Listed}
-use Rattle.inspect.specs.declared.Listed.TheVariants as listed_is
+use Rattle.task.specs.declared.Refusal.{Refusal}
+use Rattle.task.specs.Node.{number_of}
 use Rattle.inspect.specs.declared.Inspected.{Inspected}
-use Rattle.inspect.specs.declared.Inspected.TheVariants as inspected_is
+use Rattle.inspect.specs.Inspect.{sizes_of}
+
+-- the number of items and the fault that is judged first, or the number of the refusal
+abbrev pub Listed : Type 0
+Listed = Result (ℕ × Fault) ℕ
+
+-- the number of a fault's refusal, 0 for none
+abbrev pub refused_by : Option Refusal → ℕ
+refused_by None = 0
+refused_by (Some r) = number_of r
 
 -- items counted and judged before others
 abbrev pub join : Listed → Listed → Listed
-join (listed_is.Items n f) (listed_is.Items m g) = listed_is.Items (n + m) (lower f g)
-join (listed_is.Items n f) (listed_is.Refused k) = listed_is.Refused k
-join (listed_is.Refused k) y = listed_is.Refused k
+join (Ok (n, f)) (Ok (m, g)) = Ok ((n + m), (lower f g))
+join (Ok (n, f)) (Err k) = Err k
+join (Err k) y = Err k
 
 -- an item, then those behind it
-abbrev pub onward : Walked → (ℕ → Listed) → Listed
-onward (walked_is.Next f q) rest = join (listed_is.Items 1 f) (rest q)
-onward (walked_is.Refused k) rest = listed_is.Refused k
+abbrev pub onward : Res Fault → (ℕ → Listed) → Listed
+onward (got f q) rest = join (Ok (1, f)) (rest q)
+onward (refuse k) rest = Err k
 
 -- items one after another, by the walk of one: n are enough
-unfoldable pub walk_items : ℕ → (ℕ → Walked) → ℕ → ℕ → Listed
-walk_items zero one end at = listed_is.Items 0 Sound
-walk_items (suc n) one end at = cond (leb end at) (listed_is.Items 0 Sound) (onward (one at) (walk_items n one end))
+unfoldable pub walk_items : ℕ → (ℕ → Res Fault) → ℕ → ℕ → Listed
+walk_items zero one end at = Ok (0, Sound)
+walk_items (suc n) one end at = cond (leb end at) (Ok (0, Sound)) (onward (one at) (walk_items n one end))
 
 -- the decoded items of a section
 abbrev pub listed : {A : Type 0} → (A → Fault) → Res (List A) → Listed
-listed fault (got xs p) = listed_is.Items (length xs) (each fault xs)
-listed fault (refuse k) = listed_is.Refused k
+listed fault (got xs p) = Ok ((length xs), (each fault xs))
+listed fault (refuse k) = Err k
 
 -- comments are no declarations
 abbrev pub uncounted : Listed → Listed
-uncounted (listed_is.Items n f) = listed_is.Items 0 f
-uncounted (listed_is.Refused k) = listed_is.Refused k
+uncounted (Ok (n, f)) = Ok (0, f)
+uncounted (Err k) = Err k
 
 -- the items of a section
 unfoldable pub section_of : Section → List ℕ → ℕ → Listed
@@ -60,18 +67,18 @@ items_of file b =
     (join (section_of Functions (take b.kvars file) b.functions) (section_of KVars (take b.constraint file) b.kvars))))
 
 -- the answer by the fault that is judged first
-abbrev pub judge : Bounds → ℕ → ℕ → Fault → Inspected
-judge b declarations heads f = cond (eqb (refusal_of f) 0) (inspected_is.Task b declarations heads) (inspected_is.Refused (refusal_of f))
+abbrev pub judge : Bounds → ℕ → ℕ → Fault → Result Inspected ℕ
+judge b declarations heads f = cond (eqb (refusal_of f) 0) (Ok (sizes_of b declarations heads)) (Err (refusal_of f))
 
 -- the answer by the constraint's walk, given the number and the fault of the items
-abbrev pub conclude : Bounds → ℕ → Fault → Walked → ℕ → Inspected
-conclude b n f (walked_is.Next g p) heads = cond (eqb p b.end) (judge b n heads (lower f g)) (inspected_is.Refused 2)
-conclude b n f (walked_is.Refused k) heads = inspected_is.Refused k
+abbrev pub conclude : Bounds → ℕ → Fault → Res Counted → Result Inspected ℕ
+conclude b n f (got c p) = cond (eqb p b.end) (judge b n c.heads (lower f c.fault)) (Err 2)
+conclude b n f (refuse k) = Err k
 
 -- the answer by the walks of the items and of the constraint
-abbrev pub finish : Bounds → Listed → Counted → Inspected
-finish b (listed_is.Items n f) c = conclude b n f c.walked c.heads
-finish b (listed_is.Refused k) c = inspected_is.Refused k
+abbrev pub finish : Bounds → Listed → Res Counted → Result Inspected ℕ
+finish b (Ok (n, f)) c = conclude b n f c
+finish b (Err k) c = Err k
 
 -- the task that a file holds by the faults of its pieces: its names are not judged
 unfoldable pub sound_of : List ℕ → Res Task

@@ -2,75 +2,52 @@
 // number of its refusal. It reads at most 4,096 files of at most 65,535 bytes.
 #![tactic(auto)]
 
-ghost use Rattle.std.specs.Prelude.{◌≤◌};
-
-use inspect::Inspected;
-use task::Number;
 use trailer::Bounds;
 
 // Standard output.
 const STDOUT_FILENO: i32 = 1;
 
 fn main() {
-    let mut left: usize = 4096;
-    while 0 < left {
-        if inspect_next() {
-            left -= 1;
-        } else {
-            left = 0;
-        }
-    }
-}
-
-// The next file, if there is one.
-fn inspect_next() -> bool {
-    let mut head = [0u8; 4];
-    let n = io::read_full(0, &mut head);
-    if n < 4 {
-        return false;
-    }
-    let read = task::number_at(&head, 0, 4);
-    let Number::Value(size, _) = read else {
-        return false;
-    };
-    if 65535 < size {
-        return false;
-    }
-    inspect_sized(size as usize)
-}
-
-// A file of that many bytes, if they are there.
-fn inspect_sized(n: usize) -> bool
-    requires { n ≤ 65535 }
-{
     let mut buffer = io::large_buffer();
-    inspect_into(&mut buffer[..n])
-}
-
-// A file that fills the slice.
-fn inspect_into(file: &mut [u8]) -> bool {
-    let n = file.len();
-    let m = io::read_full(0, file);
-    if m < n {
-        return false;
+    for _ in 0..4096 {
+        let Some(file) = next_file(&mut buffer) else {
+            return;
+        };
+        inspect_file(file);
     }
-    let mut table = [0u16; 61026];
-    print_answer(inspect::inspect(file, &mut table));
-    true
 }
 
-fn print_answer(a: Inspected) {
-    match a {
-        Inspected::Task(b, declarations, heads) => {
-            print_bounds(b);
+// The next file, put into the buffer, if there is one.
+fn next_file(buffer: &mut [u8]) -> Option<&[u8]> {
+    let mut head = [0u8; 4];
+    if io::read_full(0, &mut head) < 4 {
+        return None;
+    }
+    let size = u32::from_le_bytes(head) as usize;
+    if 65535 < size {
+        return None;
+    }
+    let file = buffer.get_mut(..size)?;
+    if io::read_full(0, file) < size {
+        return None;
+    }
+    Some(file)
+}
+
+// The line of a file.
+fn inspect_file(file: &[u8]) {
+    let mut table = [0u16; 61026];
+    match inspect::inspect(file, &mut table) {
+        Ok(found) => {
+            print_bounds(found.bounds);
             io::write_all(STDOUT_FILENO, b" declarations ");
-            io::print_decimal(STDOUT_FILENO, declarations);
+            io::print_decimal(STDOUT_FILENO, found.declarations);
             io::write_all(STDOUT_FILENO, b" heads ");
-            io::print_decimal(STDOUT_FILENO, heads);
+            io::print_decimal(STDOUT_FILENO, found.heads);
         }
-        Inspected::Refused(k) => {
+        Err(refusal) => {
             io::write_all(STDOUT_FILENO, b"refused ");
-            io::print_decimal(STDOUT_FILENO, k as u64);
+            io::print_decimal(STDOUT_FILENO, u8::from(refusal).into());
         }
     }
     io::write_all(STDOUT_FILENO, b"\n");
@@ -78,12 +55,16 @@ fn print_answer(a: Inspected) {
 
 fn print_bounds(b: Bounds) {
     io::write_all(STDOUT_FILENO, b"task");
-    print_number(b.comments);
-    print_number(b.datatypes);
-    print_number(b.constants);
-    print_number(b.functions);
-    print_number(b.kvars);
-    print_number(b.constraint);
+    for start in [
+        b.comments,
+        b.datatypes,
+        b.constants,
+        b.functions,
+        b.kvars,
+        b.constraint,
+    ] {
+        print_number(start);
+    }
     io::write_all(STDOUT_FILENO, b" end");
     print_number(b.end);
 }

@@ -13,26 +13,22 @@ use Rattle.smt_text.specs.Editions.{NameTable}
 use Rattle.horn_text.specs.Answers.{Answer, values, refused, survey_numbers, survey_answer}
 use Rattle.horn_text.proofs.Demands.{demand1}
 use Rattle.horn_text.proofs.RunLaws.{run_laws}
-use Rattle.smt_horn.specs.declared.Surveyed.{Surveyed}
-use Rattle.smt_horn.specs.declared.Surveyed.TheVariants as survey_is
-use Rattle.smt_horn.specs.declared.Written.{Written}
-use Rattle.smt_horn.specs.declared.Written.TheVariants as written_is
-use Rattle.smt_horn.specs.Calls.{surveyed, written}
+use Rattle.std.specs.Prelude.{Ok, Err}
+use Rattle.task.specs.declared.Refusal.{Refusal}
+use Rattle.task.specs.Node.{number_of}
+use Rattle.smt_horn.specs.declared.Sizes.{Sizes}
+use Rattle.smt_horn.specs.Calls.{surveyed}
 use Rattle.jiggerreef.specs.Archive.{number, stored, Told, AllTold}
 
 -- survey's values
-pub sizes_stored : (w : Surveyed) (l : List ℕ) (a b c d : ℕ) {answer : Answer}
-    → w ≡ survey_is.Sizes a b c d → surveyed w ≡ answer → (0 ≡ number answer) × (a ∷ b ∷ c ∷ d ∷ [] ≡ stored answer l)
-sizes_stored w l a b c d e f = rw (← f) (rw e (refl, refl))
+pub sizes_stored : (s : Sizes) (l : List ℕ) {answer : Answer}
+    → surveyed (Ok s) ≡ answer → (0 ≡ number answer) × (s.parts ∷ s.assertions ∷ s.len ∷ s.longest ∷ [] ≡ stored answer l)
+sizes_stored s l f = rw (← f) (refl, refl)
 
 -- survey's refusal
-pub survey_refused : (w : Surveyed) (n : ℕ) (l : List ℕ) {answer : Answer}
-    → w ≡ survey_is.Refused n → surveyed w ≡ answer → (n ≡ number answer) × (l ≡ stored answer l)
-survey_refused w n l e f = rw (← f) (rw e (refl, refl))
-
--- a refusal of part, run or script
-pub refused_stored : (w : Written) (n : ℕ) (l : List ℕ) → w ≡ written_is.Refused n → (n ≡ number (written w)) × (l ≡ stored (written w) l)
-refused_stored w n l e = rw e (refl, refl)
+pub survey_refused : (r : Refusal) (l : List ℕ) {answer : Answer}
+    → surveyed (Err r) ≡ answer → (number_of r ≡ number answer) × (l ≡ stored answer l)
+survey_refused r l f = rw (← f) (refl, refl)
 
 -- the same answer, the same number and the same values
 pub same_answer : {a b : Answer} {n : ℕ} {now : List ℕ} (before : List ℕ)

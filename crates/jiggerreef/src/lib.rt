@@ -10,17 +10,18 @@ ghost use Rattle.horn_text.specs.Demand.{Promised};
 ghost use Rattle.smt_horn.specs.Calls.{written as answered};
 ghost use Rattle.jiggerreef.specs.Archive.{number, stored};
 
-use smt_horn::{Surveyed, Written};
 use smt_text::Edition;
+use task::Refusal;
 
 // The edition of a number: 0 is Z3, any other cvc5.
+#[tactic(auto, unfolding(smt_text::specs::Editions::edition_of))]
 fn edition_of(number: u8) -> Edition
     ensures { result ≡ edition_of number }
 {
-    if number == 0 {
-        return Edition::Z3;
+    match number {
+        0 => Edition::Z3,
+        _ => Edition::Cvc5,
     }
-    Edition::Cvc5
 }
 
 // Stores the numbers of parts and of assertions, the length of the script and that of its longest part; or answers the number of the
@@ -28,26 +29,25 @@ fn edition_of(number: u8) -> Edition
 pub fn jiggerreef_survey(file: &[u8], edition: u8, sizes: &mut [usize; 4]) -> u8
     ensures { (result ≡ number (survey_answer (names_of (edition_of edition)) file.now)) × (sizes.new ≡ stored (survey_answer (names_of (edition_of edition)) file.now) sizes.old) }
 {
-    let surveyed = smt_horn::survey(file, edition_of(edition));
-    match surveyed {
-        Surveyed::Sizes(parts, assertions, len, longest) => {
-            *sizes = [parts, assertions, len, longest];
+    match smt_horn::survey(file, edition_of(edition)) {
+        Ok(found) => {
+            *sizes = [found.parts, found.assertions, found.len, found.longest];
             0
         }
-        Surveyed::Refused(n) => n,
+        Err(refusal) => u8::from(refusal),
     }
 }
 
 // Stores a written length; or answers the number of the refusal.
-fn store_length(written: Written, len: &mut usize) -> u8
+fn store_length(written: Result<usize, Refusal>, len: &mut usize) -> u8
     ensures { (result ≡ number (answered written)) × (len.new ∷ [] ≡ stored (answered written) (len.old ∷ [])) }
 {
     match written {
-        Written::Length(n) => {
+        Ok(n) => {
             *len = n;
             0
         }
-        Written::Refused(n) => n,
+        Err(refusal) => u8::from(refusal),
     }
 }
 

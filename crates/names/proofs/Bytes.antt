@@ -1,18 +1,16 @@
--- Names at a place: hashing them, comparing them, and whether one stands there.
+-- Names at a place: hashing them, and whether one stands there.
 use mathlib.Core.Path.{◌≡◌, refl, sym, ap, ◌∙◌}
 use mathlib.Core.Bool.{Bool, true, false}
 use mathlib.Core.List.{List}
 use Prim.Native.Nat.{ℕ, ◌+◌, ◌*◌, ◌-◌, ◌%◌, ◌≤◌, ◌<◌}
 use native.Mathlib.Numerals.{add-one}
-use native.Mathlib.Nat.{add-sub_cancel_left}
 use native.Mathlib.Omega.{arith}
 use lib.Dec.{leb, ltb}
-use lib.ListN.{length, get_or, take, drop, drop_of_length-le}
+use lib.ListN.{length, get_or, drop, drop_of_length-le}
 use lib.Seq.{drop-cons}
 use borrow.Author.Tests.{lt-ltb, le-ltb, ltb-true, ltb-false, leb-true}
-use Rattle.smtlib.specs.Lexicon.{same}
 use Rattle.smtlib.proofs.Bools.{never, true_holds, and_left, and_right, is_true}
-use Rattle.names.specs.Table.{name_at, Named, has_name, hash_from, hash_of, room_for}
+use Rattle.names.specs.Table.{Named, has_name, hash_from, hash_of, room_for}
 
 -- a test that cannot hold is false
 pub not_true : (v : Bool) → (v ≡ true → ⊥) → v ≡ false
@@ -40,18 +38,6 @@ hash_step w h i b s l e =
 pub hash_end : (w : List ℕ) (h i : ℕ) → Hashing w h i → length w ≤ i → (h ≡ hash_of w) × (h < 1024)
 unfolding hash_from
 hash_end w h i s l = (rw (drop_of_length-le w l) at s.rest, s.small)
-
--- the part of s that is a name
-cut_name : (s : List ℕ) (at b : ℕ) → b ≡ get_or s at 0 → take (at + 1 + b - (at + 1)) (drop (at + 1) s) ≡ name_at s at
-unfolding name_at
-cut_name s at b e = rw (add-sub_cancel_left (at + 1) b, e)
-
-pub hash_of_part : (s : List ℕ) (at b h : ℕ) → b ≡ get_or s at 0 → (h ≡ hash_of (take (at + 1 + b - (at + 1)) (drop (at + 1) s))) × (h < 1024)
-    → (h ≡ hash_of (name_at s at)) × (h < 1024)
-hash_of_part s at b h e f = (f.0 ∙ ap hash_of (cut_name s at b e), f.1)
-
-pub same_as_part : (s name : List ℕ) (at b : ℕ) (r : Bool) → b ≡ get_or s at 0 → r ≡ same name (take (at + 1 + b - (at + 1)) (drop (at + 1) s)) → r ≡ same name (name_at s at)
-same_as_part s name at b r e f = f ∙ ap (same name) (cut_name s at b e)
 
 -- has_name: the place has no room in a word, stands behind the end, or stands before it
 module _ (s : List ℕ) (at : ℕ) where

@@ -11,8 +11,7 @@ use lib.Seq.{get_or-set_same, get_or-set_other, take_at}
 use borrow.Author.Tests.{eq-eqb, ne_eqb, eqb-true, eqb-false, le-leb, lt-leb, lt-ltb}
 use Rattle.smtlib.specs.Lexicon.{same}
 use Rattle.smtlib.proofs.Bools.{true_holds, and_right, same→eq}
-use Rattle.names.specs.declared.Found.{Found}
-use Rattle.names.specs.declared.Found.TheVariants.{Entry, Nothing}
+use Rattle.std.specs.Prelude.{Option, Some, None}
 use Rattle.names.specs.Table.{name_at, Named, has_name, hash_of, count_of, head_of, next_of, offset_of, kind_of, Symbol, symbol, symbol_of, first_entries, entries, last_of, fits, in_bucket, link, Chains, Chained, room_for, add}
 use Rattle.names.specs.Change.{Kept, Pushed, Popped}
 use Rattle.names.proofs.Bytes.{name_named, room_there}
@@ -49,13 +48,13 @@ bucket_hash : (h : ℕ) (s t : List ℕ) (k : ℕ) → in_bucket h (symbol_of s 
 unfolding in_bucket symbol_of
 bucket_hash h s t k e = eqb-true _ _ e
 
-link_entry : (f : Found) (l : ℕ) → l ≡ link f → 0 < l → f ≡ Entry (l - 1)
-link_entry (Entry k) l e h = let z : k ≡ l - 1 = omega arith in ap Entry z
-link_entry Nothing l e h = let z : ⊥ = omega arith in absurd z
+link_entry : (f : Option ℕ) (l : ℕ) → l ≡ link f → 0 < l → f ≡ Some (l - 1)
+link_entry (Some k) l e h = let z : k ≡ l - 1 = omega arith in ap Some z
+link_entry None l e h = let z : ⊥ = omega arith in absurd z
 
-link_nothing : (f : Found) (l : ℕ) → l ≡ link f → l ≤ 0 → f ≡ Nothing
-link_nothing (Entry k) l e h = let z : ⊥ = omega arith in absurd z
-link_nothing Nothing l e h = refl
+link_nothing : (f : Option ℕ) (l : ℕ) → l ≡ link f → l ≤ 0 → f ≡ None
+link_nothing (Some k) l e h = let z : ⊥ = omega arith in absurd z
+link_nothing None l e h = refl
 
 module _ (s t : List ℕ) (n : ℕ) (name : List ℕ) (lowest highest : ℕ) where
   pub record Following (l : ℕ) : Type 0 where
@@ -93,18 +92,18 @@ module _ (s t : List ℕ) (n : ℕ) (name : List ℕ) (lowest highest : ℕ) whe
       follow_named h = c.names (l - 1) (follow_below h)
 
       -- the search goes on from the link's entry
-      on : 0 < l → cond (q (l - 1)) (Entry (l - 1)) (last_of (fits name lowest highest) (first_entries s t (l - 1))) ≡ last_of (fits name lowest highest) (first_entries s t n)
+      on : 0 < l → cond (q (l - 1)) (Some (l - 1)) (last_of (fits name lowest highest) (first_entries s t (l - 1))) ≡ last_of (fits name lowest highest) (first_entries s t n)
       unfolding p q
       on h =
-          ap (λ (g : Found). cond (q (l - 1)) (Entry (l - 1)) g) (last_is (fits name lowest highest) s t (l - 1))
+          ap (λ (g : Option ℕ). cond (q (l - 1)) (Some (l - 1)) g) (last_is (fits name lowest highest) s t (l - 1))
           ∙ sym (at h).on
           ∙ sym (last_is (fits name lowest highest) s t f.below)
           ∙ f.rest
 
       pub follow_found : 0 < l → (r : Bool) → r ≡ fits name lowest highest (symbol_of s t (l - 1)) → r ≡ true
-          → Entry (l - 1) ≡ last_of (fits name lowest highest) (first_entries s t n)
+          → Some (l - 1) ≡ last_of (fits name lowest highest) (first_entries s t n)
       unfolding q
-      follow_found h r e v = ap (λ (b : Bool). cond b (Entry (l - 1)) (last_of (fits name lowest highest) (first_entries s t (l - 1)))) (sym v ∙ e) ∙ on h
+      follow_found h r e v = ap (λ (b : Bool). cond b (Some (l - 1)) (last_of (fits name lowest highest) (first_entries s t (l - 1)))) (sym v ∙ e) ∙ on h
 
       pub follow_on : 0 < l → (m : ℕ) → m ≡ get_or t (1026 + 3 * (l - 1)) 0 → (r : Bool) → r ≡ fits name lowest highest (symbol_of s t (l - 1)) → r ≡ false → Following m
       unfolding p q
@@ -116,7 +115,7 @@ module _ (s t : List ℕ) (n : ℕ) (name : List ℕ) (lowest highest : ℕ) whe
             linked =
                 g ∙ c.nexts (l - 1) a
                 ∙ ap (λ (x : ℕ). link (last_of (in_bucket x) (first_entries s t (l - 1)))) (bucket_hash (hash_of name) s t (l - 1) (at h).passes);
-            rest = ap (λ (b : Bool). cond b (Entry (l - 1)) (last_of (fits name lowest highest) (first_entries s t (l - 1)))) (sym v ∙ e) ∙ on h;
+            rest = ap (λ (b : Bool). cond b (Some (l - 1)) (last_of (fits name lowest highest) (first_entries s t (l - 1)))) (sym v ∙ e) ∙ on h;
           }
 
       pub follow_down : 0 < l → (m : ℕ) → m ≡ get_or t (1026 + 3 * (l - 1)) 0 → m < l
@@ -125,7 +124,7 @@ module _ (s t : List ℕ) (n : ℕ) (name : List ℕ) (lowest highest : ℕ) whe
           let b = link_below (in_bucket (hash_of (name_at s (offset_of t (l - 1))))) s t (l - 1) in
           omega arith
 
-      pub follow_end : l ≤ 0 → Nothing ≡ last_of (fits name lowest highest) (first_entries s t n)
+      pub follow_end : l ≤ 0 → None ≡ last_of (fits name lowest highest) (first_entries s t n)
       unfolding p q
       follow_end h =
           sym (last_is (fits name lowest highest) s t f.below
@@ -134,7 +133,7 @@ module _ (s t : List ℕ) (n : ℕ) (name : List ℕ) (lowest highest : ℕ) whe
           ∙ f.rest
 
 -- the range by its kinds
-pub by_kinds : (name : List ℕ) (low high low' high' : ℕ) (es : List Symbol) (f : Found) → low ≡ low' → high ≡ high' → f ≡ last_of (fits name low high) es
+pub by_kinds : (name : List ℕ) (low high low' high' : ℕ) (es : List Symbol) (f : Option ℕ) → low ≡ low' → high ≡ high' → f ≡ last_of (fits name low high) es
     → f ≡ last_of (fits name low' high') es
 by_kinds name low high low' high' es f e g h = rw (← e, ← g) h
 
@@ -174,14 +173,14 @@ bucket_in : (h : ℕ) (s t : List ℕ) (n : ℕ) → hash_of (name_at s (offset_
 unfolding in_bucket symbol_of
 bucket_in h s t n e =
     ap link (last_entries (in_bucket h) s t n)
-    ∙ ap (λ (b : Bool). link (cond b (Entry n) (last_of (in_bucket h) (first_entries s t n)))) (eq-eqb (hash_of (name_at s (offset_of t n))) h e)
+    ∙ ap (λ (b : Bool). link (cond b (Some n) (last_of (in_bucket h) (first_entries s t n)))) (eq-eqb (hash_of (name_at s (offset_of t n))) h e)
 
 bucket_out : (h : ℕ) (s t : List ℕ) (n : ℕ) → (hash_of (name_at s (offset_of t n)) ≡ h → ⊥)
     → link (last_of (in_bucket h) (first_entries s t (suc n))) ≡ link (last_of (in_bucket h) (first_entries s t n))
 unfolding in_bucket symbol_of
 bucket_out h s t n e =
     ap link (last_entries (in_bucket h) s t n)
-    ∙ ap (λ (b : Bool). link (cond b (Entry n) (last_of (in_bucket h) (first_entries s t n)))) (ne_eqb (hash_of (name_at s (offset_of t n))) h e)
+    ∙ ap (λ (b : Bool). link (cond b (Some n) (last_of (in_bucket h) (first_entries s t n)))) (ne_eqb (hash_of (name_at s (offset_of t n))) h e)
 
 -- PUSH
 
@@ -368,16 +367,12 @@ module _ (s t : List ℕ) (o d : ℕ) (c : Chained s t) where
       unchanged (rw (← e, f, k, ← g, h))
 
 -- there are both: what is asked of the place
-pub to_place : (s t : List ℕ) (o n : ℕ) (r v : Bool) → Chained s t → n ≡ count_of t → r ≡ has_name s o → r ≡ true → v ≡ room_for (length t) n → v ≡ true
-    → (Chained s t × (n ≡ count_of t)) × ((n < 65535) × (1026 + 3 * n + 3 ≤ length t) × (o < 65536) × Named s o)
-to_place s t o n r v c z e f g h =
+pub to_place : (s : List ℕ) (o words n : ℕ) (r v : Bool) → r ≡ has_name s o → r ≡ true → v ≡ room_for words n → v ≡ true
+    → (n < 65535) × (1026 + 3 * n + 3 ≤ words) × (o < 65536) × Named s o
+to_place s o words n r v e f g h =
     let x = name_named s o (sym e ∙ f) in
-    let y = room_there (length t) n (sym g ∙ h) in
-    ((c, z), (y.0, y.1, x.0, x.1))
-
--- the kind by its number
-pub numbered : (s t : List ℕ) (o d d' : ℕ) (u : List ℕ) → d ≡ d' → Pushed s t o d u → Pushed s t o d' u
-numbered s t o d d' u e p = rw (← e) p
+    let y = room_there words n (sym g ∙ h) in
+    (y.0, y.1, x.0, x.1)
 
 -- POP
 

@@ -6,12 +6,11 @@ use Prim.Native.Nat.{ℕ, suc, ◌+◌, ◌-◌, ◌*◌, ◌≤◌, ◌<◌}
 use native.Mathlib.Omega.{arith}
 use lib.Dec.{leb}
 use lib.ListN.{length, get_or, take, set, replicate, length-append, length-set, length-replicate, get_or-replicate}
-use lib.Seq.{get_or-set_other, take_at, take_all, take-take, length-take-le}
+use lib.Seq.{get_or-set_other, take_at}
 use borrow.Author.Tests.{le-leb, leb-true}
 use Rattle.smtlib.specs.Lexicon.{same, is_one}
 use Rattle.smtlib.proofs.Bools.{true_holds, is_true, and_left, and_right, same_self, same→eq}
-use Rattle.names.specs.declared.Found.{Found}
-use Rattle.names.specs.declared.Found.TheVariants.{Entry, Nothing}
+use Rattle.std.specs.Prelude.{Option, Some, None}
 use Rattle.names.specs.Table.{name_at, has_name, count_of, Symbol, symbol, symbol_of, first_entries, entries, or_else, last_from, last_of, in_range, fits, names_of, in_bucket, link, Chained, room_for, add}
 use Rattle.names.specs.Change.{Blank, Kept, Pushed, Popped, Restored}
 use Rattle.names.specs.Theorems.{Fits, Searches, Ranges, is_found, Members, Changes}
@@ -62,11 +61,11 @@ ranges = record { later = refl; earlier = refl; lowest = refl; above = refl; bel
 -- NAMES OF A RANGE OF KINDS
 
 -- the later of two is found, or the earlier
-either_found : (f : Found) (b : Bool) (i : ℕ) → is_found (or_else f (cond b (Entry i) Nothing)) ≡ b || is_found f
-either_found (Entry k) true i = refl
-either_found (Entry k) false i = refl
-either_found Nothing true i = refl
-either_found Nothing false i = refl
+either_found : (f : Option ℕ) (b : Bool) (i : ℕ) → is_found (or_else f (cond b (Some i) None)) ≡ b || is_found f
+either_found (Some k) true i = refl
+either_found (Some k) false i = refl
+either_found None true i = refl
+either_found None false i = refl
 
 module _ (lowest highest : ℕ) where
   -- a symbol of a kind in the range is one by its name, and another is none
@@ -164,40 +163,6 @@ pushed_popped : (s t : List ℕ) (o d : ℕ) (u v w : List ℕ) → has_name s o
 unfolding add
 pushed_popped s t o d u v w h r g e p =
     scope_ends s t u v w (symbol d (name_at s o) ∷ []) 1 (g.are ∙ rw (h, r)) refl g.kept g.words e p
-
--- entries that go one after another
-pub popped_none : (s t : List ℕ) → Chained s t → Popped s t 0 t
-popped_none s t c = record { chained = c; are = sym (take_all (length (entries s t) - 0) (entries s t) (omega arith)); kept = kept_all t; words = refl; options = refl }
-
-take_less : (es : List Symbol) (m : ℕ) → take (length (take (length es - m) es) - 1) (take (length es - m) es) ≡ take (length es - suc m) es
-take_less es m =
-    let k = length-take-le (length es - m) es (omega arith) in
-    take-take (length (take (length es - m) es) - 1) (length es - m) es (omega arith)
-    ∙ ap (λ (j : ℕ). take j es) (let z : length (take (length es - m) es) - 1 ≡ length es - suc m = omega arith in z)
-
-pub popped_more : (s t u v : List ℕ) (m : ℕ) → Popped s t m u → Popped s u 1 v → Popped s t (suc m) v
-popped_more s t u v m a b =
-    record {
-      chained = b.chained;
-      are = b.are ∙ ap (λ (es : List Symbol). take (length es - 1) es) a.are ∙ take_less (entries s t) m;
-      kept = kept_both v u t b.kept a.kept;
-      words = b.words ∙ a.words;
-      options = b.options ∙ a.options;
-    }
-
--- the loop: of n entries as many are left
-module _ (s t : List ℕ) (n : ℕ) where
-  pub popping_start : Chained s t → (n ≤ n) × Popped s t (n - n) t
-  popping_start c = let z : n - n ≡ 0 = omega arith in (omega arith, rw z (popped_none s t c))
-
-  pub popping_more : (u v : List ℕ) (left : ℕ) → (left ≤ n) × Popped s t (n - left) u → 0 < left → Popped s u 1 v → (left - 1 ≤ n) × Popped s t (n - (left - 1)) v
-  popping_more u v left p h q =
-      let l = p.0 in
-      let z : n - (left - 1) ≡ suc (n - left) = omega arith in
-      (omega arith, rw z (popped_more s t u v (n - left) p.1 q))
-
-  pub popping_end : (u : List ℕ) (left : ℕ) → (left ≤ n) × Popped s t (n - left) u → left ≤ 0 → Popped s t n u
-  popping_end u left p h = let z : n - left ≡ n = omega arith in rw z at p.1
 
 -- another word for options
 module _ (s t : List ℕ) (word : ℕ) where

@@ -1,11 +1,9 @@
 -- The words of a symbol table, over the bytes s of a file: which entries they hold, and when the buckets' chains are right. Word 0 is left
 -- for options, word 1 is the number of entries, the next 1024 are the heads of the buckets, and three belong to each entry.
-use Rattle.std.specs.Prelude.{◌≡◌, Bool, cond, ◌&&◌, List, [], ◌∷◌, ◌++◌, ℕ, zero, suc, ◌+◌, ◌*◌, ◌%◌, ◌≤◌, ◌<◌, leb, ltb, eqb, length, get_or, take, drop}
+use Rattle.std.specs.Prelude.{◌≡◌, Option, Some, None, Bool, cond, ◌&&◌, List, [], ◌∷◌, ◌++◌, ℕ, zero, suc, ◌+◌, ◌*◌, ◌%◌, ◌≤◌, ◌<◌, leb, ltb, eqb, length, get_or, take, drop}
 use Rattle.smtlib.specs.Lexicon.{same}
 use Rattle.names.specs.declared.Kind.{Kind}
 use Rattle.names.specs.declared.Kind.TheVariants.{Datatype, KVar, Constructor, Field, Constant, Function, Bound, Occurrence}
-use Rattle.names.specs.declared.Found.{Found}
-use Rattle.names.specs.declared.Found.TheVariants.{Entry, Nothing}
 
 -- a kind as it stands in the table
 abbrev pub number_of : Kind → ℕ
@@ -76,16 +74,16 @@ first_entries s t (suc n) = first_entries s t n ++ (symbol_of s t n ∷ [])
 abbrev pub entries : List ℕ → List ℕ → List Symbol
 entries s t = first_entries s t (count_of t)
 
-abbrev pub or_else : Found → Found → Found
-or_else (Entry k) f = Entry k
-or_else Nothing f = f
+abbrev pub or_else : Option ℕ → Option ℕ → Option ℕ
+or_else (Some k) f = Some k
+or_else None f = f
 
 -- the last symbol of a list that passes the test, where the first has the number i
-unfoldable pub last_from : (Symbol → Bool) → ℕ → List Symbol → Found
-last_from p i [] = Nothing
-last_from p i (e ∷ es) = or_else (last_from p (suc i) es) (cond (p e) (Entry i) Nothing)
+unfoldable pub last_from : (Symbol → Bool) → ℕ → List Symbol → Option ℕ
+last_from p i [] = None
+last_from p i (e ∷ es) = or_else (last_from p (suc i) es) (cond (p e) (Some i) None)
 
-abbrev pub last_of : (Symbol → Bool) → List Symbol → Found
+abbrev pub last_of : (Symbol → Bool) → List Symbol → Option ℕ
 last_of p es = last_from p 0 es
 
 -- a kind is in the range
@@ -106,9 +104,9 @@ unfoldable pub in_bucket : ℕ → Symbol → Bool
 in_bucket h e = eqb (hash_of e.name) h
 
 -- the word for an entry of a chain, or for its end
-abbrev pub link : Found → ℕ
-link (Entry k) = suc k
-link Nothing = 0
+abbrev pub link : Option ℕ → ℕ
+link (Some k) = suc k
+link None = 0
 
 -- The table has n entries, their names stand in s, and each chain's word names the last entry of the bucket below it.
 pub record Chains (s t : List ℕ) (n : ℕ) : Type 0 where

@@ -9,7 +9,7 @@ ghost use Rattle.names.specs.Table.{number_of, name_at, has_name, Named, hash_of
 ghost use Rattle.names.specs.Change.{Pushed, Popped};
 
 // What an entry's name is the name of. A search asks for a range of kinds in this order.
-#[derive(Clone, Copy)]
+#[derive(Clone, Copy, PartialEq, Eq, PartialOrd, Ord, Debug)]
 pub enum Kind {
     Datatype,
     KVar,
@@ -21,72 +21,33 @@ pub enum Kind {
     Occurrence,
 }
 
-// The answer of a search: the number of an entry.
-#[derive(Clone, Copy)]
-pub enum Found {
-    Entry(usize),
-    Nothing,
-}
-
 // A kind as it stands in the table.
 fn number_of(kind: Kind) -> u16
     ensures { result ≡ number_of kind }
 {
-    match kind {
-        Kind::Datatype => 0,
-        Kind::KVar => 1,
-        Kind::Constructor => 2,
-        Kind::Field => 3,
-        Kind::Constant => 4,
-        Kind::Function => 5,
-        Kind::Bound => 6,
-        Kind::Occurrence => 7,
-    }
-}
-
-fn wide(x: u8) -> usize
-    ensures { (result ≡ x) × (result < 256) }
-{
-    x as usize
-}
-
-fn word(x: u16) -> usize
-    ensures { (result ≡ x) × (result < 65536) }
-{
-    x as usize
+    kind as u16
 }
 
 // The bucket of a name.
+#[tactic(auto, using(crate::proofs::Bytes::hash_start, crate::proofs::Bytes::hash_step, crate::proofs::Bytes::hash_end))]
 fn hash(name: &[u8]) -> usize
     ensures { (result ≡ hash_of name.now) × (result < 1024) }
 {
-    let mut h: usize = 0;
-    let mut i: usize = 0;
-    while i < name.len() {
-        h = (31 * h + wide(name[i])) % 1024;
-        i += 1;
+    let mut h = 0;
+    for b in name {
+        h = (31 * h + usize::from(*b)) % 1024;
     }
     h
 }
 
-// The bucket of the name at a place.
-fn hash_at(s: &[u8], at: usize) -> usize
+// The name at a place.
+#[tactic(auto, unfolding(crate::specs::Table::name_at))]
+fn name_at(s: &[u8], at: usize) -> &[u8]
     requires { Named s.now at }
-    ensures { (result ≡ hash_of (name_at s.now at)) × (result < 1024) }
+    ensures { result.now ≡ name_at s.now at }
 {
     let from = at + 1;
-    let to = from + wide(s[at]);
-    hash(&s[from..to])
-}
-
-// Whether a name stands at a place.
-fn is_at(s: &[u8], at: usize, name: &[u8]) -> bool
-    requires { Named s.now at }
-    ensures { result ≡ same name.now (name_at s.now at) }
-{
-    let from = at + 1;
-    let to = from + wide(s[at]);
-    smtlib::same_bytes(name, &s[from..to])
+    &s[from..from + usize::from(s[at])]
 }
 
 // Whether entry k has the name and a kind in the range.
@@ -98,55 +59,44 @@ fn is_entry(s: &[u8], table: &[u16], k: usize, name: &[u8], lowest: u16, highest
 {
     let at = 1026 + 3 * k;
     let kind = table[at + 2];
-    if kind < lowest {
-        return false;
-    }
-    if highest < kind {
-        return false;
-    }
-    is_at(s, word(table[at + 1]), name)
+    lowest <= kind
+        && kind <= highest
+        && smtlib::same_bytes(name, name_at(s, usize::from(table[at + 1])))
 }
 
 // The last entry with the name and a kind in the range.
-pub fn find(s: &[u8], table: &[u16], name: &[u8], lowest: Kind, highest: Kind) -> Found
+pub fn find(s: &[u8], table: &[u16], name: &[u8], lowest: Kind, highest: Kind) -> Option<usize>
     requires { Chained s.now table.now }
     ensures { result ≡ last_of (fits name.now (number_of lowest) (number_of highest)) (entries s.now table.now) }
 {
     let low = number_of(lowest);
     let high = number_of(highest);
     let h = 2 + hash(name);
-    let mut link = word(table[h]);
+    let mut link = usize::from(table[h]);
     while 0 < link {
         let k = link - 1;
         if is_entry(s, table, k, name, low, high) {
-            return Found::Entry(k);
+            return Some(k);
         }
-        link = word(table[1026 + 3 * k]);
+        link = usize::from(table[1026 + 3 * k]);
     }
-    Found::Nothing
+    None
 }
 
 // Whether a whole name stands at a place that a word has room for.
+#[tactic(auto, using(crate::proofs::Bytes::name_behind, crate::proofs::Bytes::name_far, crate::proofs::Bytes::name_before))]
 fn has_name(s: &[u8], at: usize) -> bool
     ensures { result ≡ has_name s.now at }
 {
-    if 65535 < at {
-        return false;
-    }
-    if s.len() <= at {
-        return false;
-    }
-    wide(s[at]) < s.len() - at
+    at <= 65535 && at < s.len() && usize::from(s[at]) < s.len() - at
 }
 
 // Whether a table of that many words has room for entry n.
+#[tactic(auto, using(crate::proofs::Bytes::room_most, crate::proofs::Bytes::room_rest))]
 fn room_for(words: usize, n: usize) -> bool
     ensures { result ≡ room_for words n }
 {
-    if 65535 <= n {
-        return false;
-    }
-    1026 + 3 * n + 3 <= words
+    n < 65535 && 1026 + 3 * n + 3 <= words
 }
 
 // Entry n: its three words, the head of its bucket and the number of entries.
@@ -156,7 +106,7 @@ fn place(s: &[u8], table: &mut [u16], n: usize, offset: usize, kind: u16)
     ensures { Pushed s.now table.old offset kind table.new }
 {
     let at = 1026 + 3 * n;
-    let h = 2 + hash_at(s, offset);
+    let h = 2 + hash(name_at(s, offset));
     table[at] = table[h];
     table[at + 1] = offset as u16;
     table[at + 2] = kind;
@@ -165,33 +115,30 @@ fn place(s: &[u8], table: &mut [u16], n: usize, offset: usize, kind: u16)
 }
 
 // One entry more, if there is room for it and a name stands there.
+#[tactic(auto, using(crate::proofs::Chains::push_unnamed, crate::proofs::Chains::push_full))]
 pub fn push(s: &[u8], table: &mut [u16], offset: usize, kind: Kind)
     requires { Chained s.now table.old }
     ensures { Pushed s.now table.old offset (number_of kind) table.new }
 {
-    if !has_name(s, offset) {
-        return;
+    let n = usize::from(table[1]);
+    if has_name(s, offset) && room_for(table.len(), n) {
+        place(s, table, n, offset, number_of(kind));
     }
-    let n = word(table[1]);
-    if !room_for(table.len(), n) {
-        return;
-    }
-    let number = number_of(kind);
-    place(s, table, n, offset, number);
 }
 
 // One entry less, if there is one: the last goes.
+#[tactic(auto, using(crate::proofs::Chains::pop_none, crate::proofs::Chains::last_named))]
 pub fn pop(s: &[u8], table: &mut [u16])
     requires { Chained s.now table.old }
     ensures { Popped s.now table.old 1 table.new }
 {
-    let n = word(table[1]);
+    let n = usize::from(table[1]);
     if n == 0 {
         return;
     }
     let last = n - 1;
     let at = 1026 + 3 * last;
-    let h = 2 + hash_at(s, word(table[at + 1]));
+    let h = 2 + hash(name_at(s, usize::from(table[at + 1])));
     table[h] = table[at];
     table[1] = last as u16;
 }
@@ -201,10 +148,8 @@ pub fn pop_last(s: &[u8], table: &mut [u16], n: u64)
     requires { Chained s.now table.old }
     ensures { Popped s.now table.old n table.new }
 {
-    let mut left = n;
-    while 0 < left {
+    for _ in 0..n {
         pop(s, table);
-        left -= 1;
     }
 }
 
@@ -213,6 +158,5 @@ pub fn offset_of(table: &[u16], k: usize) -> usize
     requires { 1026 + 3 * k + 1 < length table.now }
     ensures { result ≡ offset_of table.now k }
 {
-    let at = 1026 + 3 * k;
-    word(table[at + 1])
+    usize::from(table[1026 + 3 * k + 1])
 }

@@ -1,14 +1,14 @@
--- The decimal of a number of two halves, nine digits at a step: the arithmetic of the division, the digits of a step, and what the steps add up to.
-use mathlib.Core.Path.{◌≡◌, refl, sym, ap, ◌∙◌, subst}
+-- The decimal of a number of two halves, nine digits at a step: the digits of a step, and what the steps add up to.
+use mathlib.Core.Path.{◌≡◌, sym, ap, ◌∙◌}
 use mathlib.Core.Bool.{Bool, true, false}
 use mathlib.Core.Logic.{⊎_elim}
 use mathlib.Core.List.{List, [], ◌∷◌, ◌++◌, append_assoc, append-nil}
 use Prim.Native.Nat.{ℕ, zero, suc, ◌+◌, ◌*◌, ◌-◌, ◌/◌, ◌%◌, ◌^◌, ◌<◌, ◌≤◌}
 use native.Mathlib.Omega.{arith}
-use native.Mathlib.Nat.{pow-suc, pow-succ', zero-add, suc-add, one-le-pow, div-lt_iff_lt-mul, le-div_iff_mul-le, div-add-mod, mod-lt, mul_assoc, mul-le-mul, mul-suc, sub-zero, pow-le-pow_right, lt_of_lt_of_le, le_refl, mul-le-mul_left, add-lt-add_of_lt_of_le, add_comm, add-zero}
-use lib.Dec.{ltb, lit≤, lit<}
-use lib.ListN.{length, drop, take, set, length-set, length-drop, length-append, drop_of_length-le}
-use lib.Seq.{take_all, drop-cons, get_or-set_same, drop-set-lt}
+use native.Mathlib.Nat.{pow-suc, pow-succ', zero-add, suc-add, one-le-pow, div-lt_iff_lt-mul, le-div_iff_mul-le, div-add-mod, mod-lt, mul_assoc, mul-le-mul, pow-le-pow_right}
+use lib.Dec.{ltb, lit<}
+use lib.ListN.{length, drop, set, length-set, length-drop, length-append}
+use lib.Seq.{drop-cons, get_or-set_same, drop-set-lt}
 use borrow.Author.Tests.{ltb-true, ltb-false, lt-ltb, le-ltb}
 use Rattle.smtlib.specs.Compose.{digits, decimal}
 use Rattle.smtlib.proofs.Decimal.{decimal_digits}
@@ -18,56 +18,6 @@ use Rattle.output.specs.Digits.{padded}
 -- the number of two halves
 abbrev pub whole : ℕ → ℕ → ℕ
 whole lo hi = lo + 2 ^ 64 * hi
-
--- DIVISION BY 10^9
-
--- what is left of the high half, and behind it the high limb of the low half
-abbrev high_part : ℕ → ℕ → ℕ
-high_part lo hi = hi % 10 ^ 9 * 2 ^ 32 + lo / 2 ^ 32
-
--- what is left of that, and behind it the low limb
-abbrev low_part : ℕ → ℕ → ℕ
-low_part lo hi = high_part lo hi % 10 ^ 9 * 2 ^ 32 + lo % 2 ^ 32
-
--- the quotient
-abbrev quotient : ℕ → ℕ → ℕ
-quotient lo hi = whole (high_part lo hi / 10 ^ 9 * 2 ^ 32 + low_part lo hi / 10 ^ 9) (hi / 10 ^ 9)
-
--- the sum in the first part does not overflow
-pub high_fits : (lo hi : ℕ) → lo < 2 ^ 64 → high_part lo hi < 2 ^ 64
-high_fits lo hi h =
-    let r : hi % 10 ^ 9 < 10 ^ 9 = omega arith in
-    let x : lo / 2 ^ 32 < 2 ^ 32 = omega arith in
-    omega arith
-
--- a number put together from its parts
-whole_parts : (lo hi : ℕ) → whole lo hi ≡ 10 ^ 9 * quotient lo hi + low_part lo hi % 10 ^ 9
-whole_parts lo hi =
-    let a : hi ≡ 10 ^ 9 * (hi / 10 ^ 9) + hi % 10 ^ 9 = omega arith in
-    let b : lo ≡ 2 ^ 32 * (lo / 2 ^ 32) + lo % 2 ^ 32 = omega arith in
-    let c : high_part lo hi ≡ 10 ^ 9 * (high_part lo hi / 10 ^ 9) + high_part lo hi % 10 ^ 9 = omega arith in
-    let d : low_part lo hi ≡ 10 ^ 9 * (low_part lo hi / 10 ^ 9) + low_part lo hi % 10 ^ 9 = omega arith in
-    sums lo hi (hi / 10 ^ 9) (hi % 10 ^ 9) (lo / 2 ^ 32) (lo % 2 ^ 32) (high_part lo hi / 10 ^ 9) (high_part lo hi % 10 ^ 9) (low_part lo hi / 10 ^ 9) (low_part lo hi % 10 ^ 9) a b c d
-  where
-    sums : (lo hi q r x y q₁ r₁ q₀ r₀ : ℕ) → hi ≡ 10 ^ 9 * q + r → lo ≡ 2 ^ 32 * x + y → r * 2 ^ 32 + x ≡ 10 ^ 9 * q₁ + r₁ → r₁ * 2 ^ 32 + y ≡ 10 ^ 9 * q₀ + r₀
-        → whole lo hi ≡ 10 ^ 9 * whole (q₁ * 2 ^ 32 + q₀) q + r₀
-    sums lo hi q r x y q₁ r₁ q₀ r₀ a b c d = omega arith
-
--- `divide`: the quotient and the rest
-pub divided : (lo hi : ℕ) → (quotient lo hi ≡ whole lo hi / 10 ^ 9) × (low_part lo hi % 10 ^ 9 ≡ whole lo hi % 10 ^ 9)
-divided lo hi = both (whole lo hi) (quotient lo hi) (low_part lo hi % 10 ^ 9) (whole_parts lo hi) (omega arith)
-  where
-    both : (n q r : ℕ) → n ≡ 10 ^ 9 * q + r → r < 10 ^ 9 → (q ≡ n / 10 ^ 9) × (r ≡ n % 10 ^ 9)
-    both n q r e h = (omega arith, omega arith)
-
--- `is_short`: a number is below 10^9 if its low half is and there is no high one
-pub low_short : (lo hi : ℕ) → hi ≡ 0 → ltb lo (10 ^ 9) ≡ ltb (whole lo hi) (10 ^ 9)
-low_short lo hi e = sym (ap (λ (n : ℕ). ltb n (10 ^ 9)) (ap (λ (h : ℕ). whole lo h) e ∙ add-zero lo))
-
-pub high_long : (lo hi : ℕ) → (hi ≡ 0 → ⊥) → false ≡ ltb (whole lo hi) (10 ^ 9)
-high_long lo hi z =
-    let p : 1 ≤ hi = omega arith in
-    sym (le-ltb (whole lo hi) (10 ^ 9) (omega arith))
 
 -- DIGITS
 
@@ -118,23 +68,16 @@ pub record Nine (n e : ℕ) (b l : List ℕ) (i m : ℕ) : Type 0 where
   pub are : padded (9 - i) m ++ drop (e - i) l ≡ padded 9 n ++ drop e b
 
 module _ (n e : ℕ) (b : List ℕ) where
-  pub nine_start : Nine n e b b 0 n
-  nine_start = record { some = omega arith; size = refl; are = rw (sub-zero e) }
-
-  pub nine_more : (l : List ℕ) (i m : ℕ) → 9 ≤ e → e ≤ length b → Nine n e b l i m → i < 9 → Nine n e b (set l (e - (i + 1)) (48 + m % 10)) (i + 1) (m / 10)
+  pub nine_more : (l : List ℕ) (i m : ℕ) → 9 ≤ e → e ≤ length b → Nine n e b l i m → i < 9 → Nine n e b (set l (e - 1 - i) (48 + m % 10)) (i + 1) (m / 10)
   nine_more l i m p q f h =
       let k : 9 - i ≡ suc (9 - (i + 1)) = omega arith in
-      let at : e - i ≡ suc (e - (i + 1)) = omega arith in
+      let at : e - i ≡ suc (e - 1 - i) = omega arith in
+      let next : e - (i + 1) ≡ e - 1 - i = omega arith in
       record {
         some = omega arith;
-        size = length-set l (e - (i + 1)) (48 + m % 10) ∙ f.size;
-        are = put (padded (9 - (i + 1)) (m / 10)) l (e - (i + 1)) (48 + m % 10) (omega (arith, f.size)) ∙ rw (k, at) at f.are;
+        size = length-set l (e - 1 - i) (48 + m % 10) ∙ f.size;
+        are = rw next (put (padded (9 - (i + 1)) (m / 10)) l (e - 1 - i) (48 + m % 10) (omega (arith, f.size)) ∙ rw (k, at) at f.are);
       }
-
-  pub nine_end : (l : List ℕ) (i m : ℕ) → Nine n e b l i m → 9 ≤ i → drop (e - 9) l ≡ padded 9 n ++ drop e b
-  nine_end l i m f h =
-      let k : i ≡ 9 = omega (arith, f.some) in
-      rw k at f.are
 
 -- `fill_last`: the digits of n that are left are those of m, up to place i.
 pub record Last (n e : ℕ) (b l : List ℕ) (i m : ℕ) : Type 0 where
@@ -144,11 +87,6 @@ pub record Last (n e : ℕ) (b l : List ℕ) (i m : ℕ) : Type 0 where
   pub are : decimal m ++ drop (suc i) l ≡ decimal n ++ drop e b
 
 module _ (n e : ℕ) (b : List ℕ) where
-  pub last_start : 1 ≤ e → n < 10 ^ e → Last n e b b (e - 1) n
-  last_start p h =
-      let k : suc (e - 1) ≡ e = omega arith in
-      record { place = omega arith; size = refl; fits = rw k h; are = rw k }
-
   module _ (l : List ℕ) (i m : ℕ) (q : e ≤ length b) (f : Last n e b l i m) where
     pub last_room : 10 ≤ m → 1 ≤ i
     last_room h = ⊎_elim (λ (z : i ≤ 0). let u : i ≡ 0 = omega arith in let w : m < 10 = rw u at f.fits in absurd (omega arith)) (λ (z : 0 < i). z) (le_or_lt i 0)
@@ -167,13 +105,6 @@ module _ (n e : ℕ) (b : List ℕ) where
     pub last_end : m < 10 → drop i (set l i (48 + m)) ≡ decimal n ++ drop e b
     last_end h = put [] l i (48 + m) (omega (arith, f.place, f.size)) ∙ rw (one_digit m h) at f.are
 
--- a number of two halves has at most 45 digits
-fit : (lo hi : ℕ) → lo < 2 ^ 64 → hi < 2 ^ 64 → whole lo hi < 10 ^ 45
-fit lo hi p q =
-    lt_of_lt_of_le
-    (lt_of_lt_of_le (add-lt-add_of_lt_of_le p (le_refl (2 ^ 64 * hi))) (subst (λ (n : ℕ). n ≤ 2 ^ 64 * 2 ^ 64) (mul-suc (2 ^ 64) hi ∙ add_comm _ _) (mul-le-mul_left (2 ^ 64) q)))
-    (lit≤ {m = 2 ^ 64 * 2 ^ 64} {n = 10 ^ 45} tt)
-
 -- the power of a sum
 pow_add : (k e : ℕ) → 10 ^ (k + e) ≡ 10 ^ e * 10 ^ k
 pow_add zero e = rw (zero-add e) (omega arith)
@@ -191,17 +122,6 @@ pub record Filling (d : List ℕ) (keep : Bool) (l : List ℕ) (e v : ℕ) : Typ
   pub fits : v < 10 ^ e
   pub count : length (decimal v) + (45 - e) ≡ length d
   pub are : keep ≡ true → decimal v ++ drop e l ≡ d
-
-pub filling : (lo hi : ℕ) (keep : Bool) (l : List ℕ) → length l ≡ 45 → lo < 2 ^ 64 → hi < 2 ^ 64 → Filling (decimal (whole lo hi)) keep l 45 (whole lo hi)
-filling lo hi keep l e p q = record {
-  some = omega arith;
-  place = omega arith;
-  size = e;
-  fits = fit lo hi p q;
-  count = add-zero (length (decimal (whole lo hi)));
-  are = λ _. let n : length l ≤ 45 = omega arith in
-      ap (λ (r : List ℕ). decimal (whole lo hi) ++ r) (drop_of_length-le l n) ∙ append-nil (decimal (whole lo hi));
-}
 
 module _ (d l : List ℕ) (keep : Bool) (e lo hi : ℕ) (t : Bool) (f : Filling d keep l e (whole lo hi)) (u : t ≡ ltb (whole lo hi) (10 ^ 9)) where
   -- a number of more than nine digits leaves room for others before the nine
@@ -242,9 +162,6 @@ module _ (d l : List ℕ) (keep : Bool) (e lo hi : ℕ) (t : Bool) (f : Filling 
   low_only : t ≡ true → whole lo hi ≡ lo
   low_only z = let s : whole lo hi < 10 ^ 9 = ltb-true (whole lo hi) (10 ^ 9) (sym u ∙ z) in omega arith
 
-  pub last_fits : t ≡ true → lo < 10 ^ e
-  last_fits z = rw (low_only z) at f.fits
-
   pub filled : (l' : List ℕ) (start : ℕ) → t ≡ true → length l' ≡ 45 → drop start l' ≡ decimal lo ++ drop e l → start < e
       → (keep ≡ true → drop start l' ≡ d) × (45 - start ≡ length d) × (start < 45) × (length l' ≡ 45)
   filled l' start z s w h =
@@ -252,7 +169,3 @@ module _ (d l : List ℕ) (keep : Bool) (e lo hi : ℕ) (t : Bool) (f : Filling 
       let n : length l' - start ≡ length (decimal lo) + (length l - e) = sym (length-drop start l') ∙ ap length w ∙ simp (length-append, length-drop) in
       let c : length (decimal lo) + (45 - e) ≡ length d = rw v at f.count in
       ((λ kept. w ∙ rw v at (f.are kept)), omega (arith, f.size), omega (arith, f.place), s)
-
--- the digits behind the start
-pub from_start : (b : List ℕ) (s : ℕ) → length b ≡ 45 → take (45 - s) (drop s b) ≡ drop s b
-from_start b s e = take_all (45 - s) (drop s b) (simp (length-drop, e) (omega arith))

@@ -3,10 +3,8 @@ use mathlib.Core.Path.{◌≡◌, refl, sym, ap}
 use mathlib.Core.Bool.{Bool, ◌&&◌}
 use Prim.Native.Nat.{ℕ, ◌+◌, ◌-◌, ◌<◌, ◌≤◌}
 use native.Mathlib.Nat.{add-sub_cancel_left}
-use native.Mathlib.Omega.{arith}
 use lib.Dec.{T, leb, leb→le}
 use lib.ListN.{take, drop, get_or, get_or-eq_default}
-use borrow.Author.Tests.{le-leb, lt-leb, lt-ltb, le-ltb}
 use Rattle.smtlib.specs.Lexicon.{bytes, same}
 use Rattle.smtlib.specs.Compose.{decimal}
 use Rattle.smtlib.specs.Table.{values}
@@ -20,7 +18,7 @@ use Rattle.smt_text.specs.Editions.{names_of}
 use Rattle.smt_text.specs.Theory.{thy_func_name}
 use Rattle.smt_text.specs.Text.{write_thy_func}
 use Rattle.output.specs.Emit.{Output, emits}
-use Rattle.output.specs.Names.{names, name_at, all_names, place_of, length_of, behind_of, in_edition, entry_text, entry_of}
+use Rattle.output.specs.Names.{names, name_at, all_names, place_of, length_of, in_edition, entry_text, entry_of}
 
 -- the rule of name i
 listed : ℕ → Bool
@@ -51,19 +49,6 @@ measured i h = value_at length_of 55 i h
 pub unlisted : (o : Output) (i : ℕ) → 55 ≤ i → o ≡ emits o (name_at i)
 unfolding names emits
 unlisted o i h = sym (ap (λ w. emits o (bytes w)) (get_or-eq_default names "" h))
-
--- the two ways of finding a place
-pub set_place : (e : Edition) (i n : ℕ) → 38 ≤ i → i < 45 → n ≡ behind_of e → i + n ≡ in_edition e i
-unfolding in_edition
-set_place e i n h g k = rw (le-leb 38 i h, lt-ltb i 45 g, k)
-
-pub low_place : (e : Edition) (i : ℕ) → i < 38 → i ≡ in_edition e i
-unfolding in_edition
-low_place e i h = rw (lt-leb 38 i h)
-
-pub high_place : (e : Edition) (i : ℕ) → 45 ≤ i → i ≡ in_edition e i
-unfolding in_edition
-high_place e i h = rw (le-leb 38 i (omega arith), le-ltb i 45 h)
 
 -- a function's entry stands for its text
 pub entry_text_lem : (e : Edition) (f : ThyFunc) → entry_text e (entry_of f) ≡ write_thy_func (names_of e) f

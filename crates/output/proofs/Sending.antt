@@ -46,29 +46,6 @@ module _ {A R : Type 0} {end : R} {more : A → R → R} {one : A → List ℕ} 
     step = λ w a r. rw (row.step a r) (emits_append (emit w 32) (one a) (spaced (all r)));
   }
 
-  -- the loop: the n pieces from p on are left, o was sent so far; from m, at and first on they are all
-  pub Owes : ℕ → ℕ → Output → ℕ → ℕ → Output → Type 0
-  Owes m at first n p o = Owing spaces (many end more d m s at) first (many end more d n s p) o
-
-  module _ (m at : ℕ) (first : Output) where
-    pub owes_start : Owes m at first m at first
-    unfolding Owes
-    owes_start = owing_start spaces (many end more d m s at) first
-
-    pub owes_more : (n p : ℕ) (o o1 o2 : Output) (q : ℕ) → 0 < n → Owes m at first n p o → o1 ≡ emit o 32 → Sends one (d s p) o1 o2 q
-        → Owes m at first (n - 1) q o2
-    unfolding Owes Sends
-    owes_more zero p o o1 o2 q h w e1 w1 = absurd (omega arith)
-    owes_more (suc n) p o o1 o2 q h w e1 w1 =
-        let en : suc n - 1 ≡ n = omega arith in
-        rw en (owing_more spaces (many end more d m s at) first (d s p) (many end more d n s) o o2 q w (λ a p1 e. let v = w1 a p1 e in (v.0, rw e1 at v.1)))
-
-    pub owes_end : (n p : ℕ) (o : Output) → n ≤ 0 → Owes m at first n p o → Sends (λ b. spaced (all b)) (many end more d m s at) first o p
-    unfolding Owes Sends
-    owes_end n p o h w =
-        let en : n ≡ 0 = omega arith in
-        owing_end spaces (many end more d m s at) first p o (rw en at w)
-
   -- a row by its first piece
   record First (n p : ℕ) (b : R) (q : ℕ) : Type 0 where
     head : A

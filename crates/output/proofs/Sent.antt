@@ -5,7 +5,6 @@ use mathlib.Core.List.{List, [], ◌∷◌, ◌++◌, append-nil}
 use Prim.Native.Nat.{ℕ, zero, suc, ◌+◌, ◌-◌, ◌<◌, ◌≤◌, min}
 use native.Mathlib.Omega.{arith}
 use native.Mathlib.Nat.{eq-or-lt_of_le, add-zero, add-suc, le_of_suc-le-suc}
-use native.Mathlib.Numerals.{add-one}
 use lib.ListN.{length, set, take, drop, get_or, length-set, take-append-drop, drop_of_length-le, length-take, length-drop}
 use lib.Seq.{sets, set_out, take_all, take-set-le, drop-set-add}
 use Rattle.task.proofs.Reading.{le_or_lt}
@@ -44,12 +43,13 @@ pub laid : Laid
 laid t b hb ht = emits_sets t b 0 hb (omega arith) ∙ output_path refl (omega arith)
 
 -- one more byte of a text is stored
-sets_step : (t b : List ℕ) (at i : ℕ) → i < length t → set (sets b at (take i t)) (at + i) (get_or t i 0) ≡ sets b at (take (suc i) t)
+pub sets_step : (t b : List ℕ) (at i : ℕ) → i < length t → set (sets b at (take i t)) (at + i) (get_or t i 0) ≡ sets b at (take (i + 1) t)
 sets_step [] b at i h = absurd (omega arith)
 sets_step (x ∷ t) b at zero h = rw (add-zero at)
 sets_step (x ∷ t) b at (suc i) h =
     let e : at + suc i ≡ suc at + i = omega arith in
-    rw e (sets_step t (set b at x) (suc at) i (le_of_suc-le-suc h))
+    let f : suc i + 1 ≡ suc (i + 1) = omega arith in
+    rw (e, f) (sets_step t (set b at x) (suc at) i (le_of_suc-le-suc h))
 
 -- as many as fit are all that are stored
 sets_all : (t b : List ℕ) (at i : ℕ) → min (length t) (length b - at) ≤ i → sets b at (take i t) ≡ sets b at t
@@ -59,28 +59,6 @@ sets_all (x ∷ t) b at zero h = sym (sets_out b at (x ∷ t) (omega arith))
 sets_all (x ∷ t) b at (suc i) h =
     sets_all t (set b at x) (suc at) i (let e : length (set b at x) ≡ length b = length-set b at x in omega arith)
 
--- `copy`: of the n bytes to copy, i are stored
-pub record Copying (b t : List ℕ) (at n : ℕ) (now : List ℕ) (i : ℕ) : Type 0 where
-  pub some : i ≤ n
-  pub stored : now ≡ sets b at (take i t)
-  pub size : length now ≡ length b
-
-module _ (b t : List ℕ) (at n : ℕ) where
-  pub copy_start : Copying b t at n b 0
-  copy_start = record { some = omega arith; stored = refl; size = refl }
-
-  pub copy_more : (now : List ℕ) (i : ℕ) → n ≤ length t → Copying b t at n now i → i < n → Copying b t at n (set now (at + i) (get_or t i 0)) (i + 1)
-  copy_more now i p s h = record {
-    some = omega arith;
-    stored = ap (λ (l : List ℕ). set l (at + i) (get_or t i 0)) s.stored ∙ sets_step t b at i (omega arith) ∙ ap (λ (k : ℕ). sets b at (take k t)) (sym (add-one i));
-    size = length-set now (at + i) (get_or t i 0) ∙ s.size;
-  }
-
-  pub copy_end : (now : List ℕ) (i : ℕ) → Copying b t at n now i → n ≤ i → now ≡ sets b at (take n t)
-  copy_end now i s h =
-      let e : i ≡ n = omega (arith, s.some) in
-      s.stored ∙ ap (λ (k : ℕ). sets b at (take k t)) e
-
 -- `bytes`: what was copied and counted is what is sent
 pub copied : (t b b' : List ℕ) (n m k : ℕ) → length b ≤ most → n ≤ most → b' ≡ sets b n (take k t) → min (length t) (length b - n) ≤ k → m ≡ min (n + length t) most
     → output b' m ≡ emits (output b n) t
@@ -89,16 +67,6 @@ copied t b b' n m k hb hn e h e' = output_path (e ∙ sets_all t b n k h) e' ∙
 -- where the buffer has no room for it, its length alone is needed
 pub sent_out : (t b : List ℕ) (n m : ℕ) → length b ≤ n → n ≤ most → m ≡ min (n + length t) most → output b m ≡ emits (output b n) t
 sent_out t b n m h hn e = output_path (sym (sets_out b n t h)) e ∙ sym (emits_sets t b n (omega arith) hn)
-
--- `byte`: a byte with room for it, and one without
-module _ (b : List ℕ) (n m x : ℕ) (e : m ≡ min (n + 1) most) where
-  pub byte_fits : output (set b n x) m ≡ emit (output b n) x
-  unfolding emit
-  byte_fits = output_path refl e
-
-  pub byte_over : length b ≤ n → output b m ≡ emit (output b n) x
-  unfolding emit
-  byte_over h = output_path (sym (set_out b n x h)) e
 
 -- LENT FROM THE MIDDLE
 

@@ -6,16 +6,15 @@ ghost use Rattle.std.proofs.lemmas.List.Edits.{sets};
 ghost use Rattle.smtlib.specs.Lexicon.{any};
 ghost use Rattle.smtlib.specs.Read.{doubled as doubled_of};
 ghost use Rattle.smtlib.specs.Compose.{decimal as decimal_of};
-ghost use Rattle.task.specs.Node.{bytes_of};
 ghost use Rattle.smt_text.specs.Editions.{names_of};
-ghost use Rattle.smt_text.specs.Text.{write_thy_func, write_name, write_string};
+ghost use Rattle.smt_text.specs.Text.{write_thy_func, write_string};
 ghost use Rattle.smt_text.specs.Table.{is_quote};
 ghost use Rattle.output.specs.Emit.{output, most, emit, emits};
 ghost use Rattle.output.specs.Digits.{padded};
 ghost use Rattle.output.specs.Names.{name_at, place_of, length_of, behind_of, in_edition, indexed_text, entry_of};
 
 use smt_text::Edition;
-use task::{Span, ThyFunc};
+use task::ThyFunc;
 
 // How many bytes were sent.
 #[derive(Clone, Copy)]
@@ -45,19 +44,19 @@ pub enum Entry {
     Indexed(usize, u64),
 }
 
-const NAMES: [u8; 378] =
+static NAMES: [u8; 378] =
     *b"str.lenstr.++str.prefixofstr.suffixofstr.containszero_extendsign_extendint2bvbv2intint2bvbv2intint2b\
     vbv2intint2bvbv2intbvulebvslebvugebvsgebvudivbvsdivbvsrembvurembvlshrbvashrbvandbvorbvxorbvnotbvaddb\
     vnegbvsubbvmulbvshlbvugtbvsgtbvultbvsltemptysetsingletonunionintersectionsetminussubsetmemberconstse\
     lectstoreset.emptyset.singletonset.unionset.interset.minusset.subsetset.member";
 
-const PLACES: [u16; 55] = [
+static PLACES: [u16; 55] = [
     0, 7, 13, 25, 37, 49, 60, 71, 77, 83, 89, 95, 101, 107, 113, 119, 124, 129, 134, 139, 145, 151,
     157, 163, 169, 175, 180, 184, 189, 194, 199, 204, 209, 214, 219, 224, 229, 234, 239, 247, 256,
     261, 273, 281, 287, 293, 298, 304, 309, 318, 331, 340, 349, 358, 368,
 ];
 
-const LENGTHS: [u16; 55] = [
+static LENGTHS: [u16; 55] = [
     7, 6, 12, 12, 12, 11, 11, 6, 6, 6, 6, 6, 6, 6, 6, 5, 5, 5, 5, 6, 6, 6, 6, 6, 6, 5, 4, 5, 5, 5,
     5, 5, 5, 5, 5, 5, 5, 5, 8, 9, 5, 12, 8, 6, 6, 5, 6, 5, 9, 13, 9, 9, 9, 10, 10,
 ];
@@ -66,41 +65,31 @@ const LENGTHS: [u16; 55] = [
 pub fn least(a: usize, b: usize) -> usize
     ensures { result ≡ min a b }
 {
-    if a < b {
-        return a;
-    }
-    b
+    a.min(b)
 }
 
 // The sum, or the largest number that there is.
 pub fn sum(a: usize, b: usize) -> usize
     ensures { result ≡ min (a + b) most }
 {
-    if b <= 18446744073709551615 - a {
-        return a + b;
-    }
-    18446744073709551615
+    a.saturating_add(b)
 }
 
 // The difference of two numbers, or 0: how much of a buffer is left behind a place.
 pub fn room(size: usize, at: usize) -> usize
     ensures { result ≡ size - at }
 {
-    if at < size {
-        return size - at;
-    }
-    0
+    size.saturating_sub(at)
 }
 
-// Copies the first n bytes of a text to a place of a buffer.
+// Copies the first n bytes of a text to a place of a buffer. A loop over the bytes of a fixed word is compiled to stores of its parts.
+#[tactic(auto, using(crate::proofs::Sent::sets_step))]
 fn copy(buf: &mut [u8], at: usize, text: &[u8], n: usize)
     requires { (n ≤ length text.now) × (n ≤ length buf.old - at) }
     ensures { buf.new ≡ sets buf.old at (take n text.now) }
 {
-    let mut i: usize = 0;
-    while i < n {
+    for i in 0..n {
         buf[at + i] = text[i];
-        i += 1;
     }
 }
 
@@ -121,10 +110,7 @@ fn divide(lo: u64, hi: u64) -> Divided
 fn is_short(lo: u64, hi: u64) -> bool
     ensures { result ≡ ltb (lo + 2 ^ 64 * hi) (10 ^ 9) }
 {
-    if hi == 0 {
-        return lo < 1000000000;
-    }
-    false
+    hi == 0 && lo < 1000000000
 }
 
 // Puts the last nine digits of a number before a place.
@@ -132,16 +118,15 @@ fn fill(bytes: &mut [u8], end: usize, n: u64)
     requires { (9 ≤ end) × (end ≤ length bytes.old) }
     ensures { drop (end - 9) bytes.new ≡ padded 9 n ++ drop end bytes.old }
 {
-    let mut i: usize = 0;
     let mut m = n;
-    while i < 9 {
-        i += 1;
-        bytes[end - i] = 48 + (m % 10) as u8;
-        m = m / 10;
+    for i in 0..9 {
+        bytes[end - 1 - i] = 48 + (m % 10) as u8;
+        m /= 10;
     }
 }
 
 // Puts the digits of a number before a place that has room for them, and tells where they begin.
+#[tactic(auto, using(crate::proofs::Decimals::last_end))]
 fn fill_last(bytes: &mut [u8], end: usize, n: u64) -> usize
     requires { (1 ≤ end) × (end ≤ length bytes.old) × (n < 10 ^ end) }
     ensures { (drop result bytes.new ≡ decimal_of n ++ drop end bytes.old) × (result < end) }
@@ -150,7 +135,7 @@ fn fill_last(bytes: &mut [u8], end: usize, n: u64) -> usize
     let mut m = n;
     while 10 <= m {
         bytes[i] = 48 + (m % 10) as u8;
-        m = m / 10;
+        m /= 10;
         i -= 1;
     }
     bytes[i] = 48 + m as u8;
@@ -165,10 +150,7 @@ fn digits_of(lo: u64, hi: u64, keep: bool) -> Digits
     let mut end: usize = 45;
     let mut l = lo;
     let mut h = hi;
-    loop {
-        if is_short(l, h) {
-            break;
-        }
+    while !is_short(l, h) {
         let q = divide(l, h);
         if keep {
             fill(&mut bytes, end, q.rest);
@@ -182,17 +164,14 @@ fn digits_of(lo: u64, hi: u64, keep: bool) -> Digits
 }
 
 // Whether a text has a quotation mark. Every byte is looked at: a loop with no other way out is compiled to look at many at once.
-#[tactic(auto, using(crate::proofs::Quotes::quote_met, crate::proofs::Quotes::quote_not_met, crate::proofs::Quotes::quotes_end))]
 fn has_quote(text: &[u8]) -> bool
     ensures { result ≡ any is_quote text.now }
 {
     let mut found = false;
-    let mut i: usize = 0;
-    while i < text.len() {
-        if text[i] == b'"' {
+    for b in text {
+        if *b == b'"' {
             found = true;
         }
-        i += 1;
     }
     found
 }
@@ -233,6 +212,7 @@ impl Out {
     }
 
     // Sends a byte.
+    #[tactic(auto, unfolding(crate::specs::Emit::emit))]
     pub fn byte(self, buf: &mut [u8], b: u8) -> Self
         ensures { output buf.new result.len ≡ emit (output buf.old self.len) b }
     {
@@ -245,17 +225,16 @@ impl Out {
     }
 
     // Sends the decimal of a number of two halves, the low one first.
+    #[tactic(auto, using(crate::proofs::Sent::sent_out))]
     pub fn decimal(self, buf: &mut [u8], lo: u64, hi: u64) -> Self
         ensures { output buf.new result.len ≡ emits (output buf.old self.len) (decimal_of (lo + 2 ^ 64 * hi)) }
     {
         let keep = self.len < buf.len();
-        let d = digits_of(lo, hi, keep);
-        let start = d.start;
+        let Digits { bytes, start } = digits_of(lo, hi, keep);
         if !keep {
             return self.counted(45 - start);
         }
-        let all = d.bytes;
-        self.bytes(buf, &all[start..])
+        self.bytes(buf, &bytes[start..])
     }
 
     // Sends the decimal of a number.
@@ -265,15 +244,8 @@ impl Out {
         self.decimal(buf, n, 0)
     }
 
-    // Sends a name that stands in a section.
-    pub fn name(self, buf: &mut [u8], s: &[u8], x: Span) -> Self
-        ensures { output buf.new result.len ≡ emits (output buf.old self.len) (write_name (bytes_of s.now x)) }
-    {
-        self.bytes(buf, task::bytes_of(s, x))
-    }
-
     // Sends a byte of a string: a quotation mark twice.
-    #[tactic(auto, using(crate::proofs::Quotes::quote_byte, crate::proofs::Quotes::other_byte))]
+    #[tactic(auto, unfolding(crate::specs::Emit::emits))]
     fn string_byte(self, buf: &mut [u8], b: u8) -> Self
         ensures { output buf.new result.len ≡ emits (output buf.old self.len) (doubled_of (b ∷ [])) }
     {
@@ -285,6 +257,7 @@ impl Out {
     }
 
     // Sends the bytes of a string, each quotation mark twice. Where there is none, they are sent at once.
+    #[tactic(auto, using(crate::proofs::Quotes::sent_plain))]
     fn doubled(self, buf: &mut [u8], text: &[u8]) -> Self
         ensures { output buf.new result.len ≡ emits (output buf.old self.len) (doubled_of text.now) }
     {
@@ -292,24 +265,24 @@ impl Out {
             return self.bytes(buf, text);
         }
         let mut sent = self;
-        let mut i: usize = 0;
-        while i < text.len() {
-            sent = sent.string_byte(buf, text[i]);
-            i += 1;
+        for b in text {
+            sent = sent.string_byte(buf, *b);
         }
         sent
     }
 
-    // Sends a string that stands in a section.
-    pub fn string(self, buf: &mut [u8], s: &[u8], x: Span) -> Self
-        ensures { output buf.new result.len ≡ emits (output buf.old self.len) (write_string (bytes_of s.now x)) }
+    // Sends a string.
+    #[tactic(auto, using(crate::proofs::Sent::emits_append), unfolding(crate::specs::Emit::emits, smt_text::specs::Text::write_string))]
+    pub fn string(self, buf: &mut [u8], text: &[u8]) -> Self
+        ensures { output buf.new result.len ≡ emits (output buf.old self.len) (write_string text.now) }
     {
         let opened = self.byte(buf, b'"');
-        let sent = opened.doubled(buf, task::bytes_of(s, x));
+        let sent = opened.doubled(buf, text);
         sent.byte(buf, b'"')
     }
 
     // Sends name i of a theory function; nothing if there is none.
+    #[tactic(auto, using(crate::proofs::Listing::inside, crate::proofs::Listing::unlisted))]
     fn listed(self, buf: &mut [u8], i: usize) -> Self
         ensures { output buf.new result.len ≡ emits (output buf.old self.len) (name_at i) }
     {
@@ -318,11 +291,11 @@ impl Out {
         }
         let start = place(i);
         let end = start + length_of(i);
-        let all = NAMES;
-        self.bytes(buf, &all[start..end])
+        self.bytes(buf, &NAMES[start..end])
     }
 
     // Sends a name with its index.
+    #[tactic(auto, using(crate::proofs::Sent::emits_append), unfolding(crate::specs::Emit::emits))]
     fn indexed(self, buf: &mut [u8], i: usize, n: u64) -> Self
         ensures { output buf.new result.len ≡ emits (output buf.old self.len) (indexed_text i n) }
     {
@@ -337,32 +310,25 @@ impl Out {
     pub fn write_thy_func(self, buf: &mut [u8], edition: Edition, func: ThyFunc) -> Self
         ensures { output buf.new result.len ≡ emits (output buf.old self.len) (write_thy_func (names_of edition) func) }
     {
-        let entry = entry_of(func);
-        match entry {
+        match entry_of(func) {
             Entry::Plain(i) => self.listed(buf, in_edition(edition, i)),
             Entry::Indexed(i, n) => self.indexed(buf, i, n),
         }
     }
 }
 
-fn wide(x: u16) -> usize
-    ensures { result ≡ x }
-{
-    x as usize
-}
-
 fn place(i: usize) -> usize
     requires { i < 55 }
     ensures { result ≡ place_of i }
 {
-    wide(PLACES[i])
+    usize::from(PLACES[i])
 }
 
 fn length_of(i: usize) -> usize
     requires { i < 55 }
     ensures { result ≡ length_of i }
 {
-    wide(LENGTHS[i])
+    usize::from(LENGTHS[i])
 }
 
 // How far behind the names of Z3 those of an edition stand.
@@ -376,15 +342,14 @@ fn behind(edition: Edition) -> usize
 }
 
 // Where the name of number i stands in an edition: 38 to 44 are the set functions.
+#[tactic(auto, unfolding(crate::specs::Names::in_edition))]
 fn in_edition(edition: Edition, i: usize) -> usize
     ensures { result ≡ in_edition edition i }
 {
-    if 38 <= i {
-        if i < 45 {
-            return i + behind(edition);
-        }
+    match i {
+        38..=44 => i + behind(edition),
+        _ => i,
     }
-    i
 }
 
 // The entry of a theory function.
@@ -397,8 +362,8 @@ fn entry_of(func: ThyFunc) -> Entry
         ThyFunc::StrPrefixOf => Entry::Plain(2),
         ThyFunc::StrSuffixOf => Entry::Plain(3),
         ThyFunc::StrContains => Entry::Plain(4),
-        ThyFunc::BvZeroExtend(n) => Entry::Indexed(5, n as u64),
-        ThyFunc::BvSignExtend(n) => Entry::Indexed(6, n as u64),
+        ThyFunc::BvZeroExtend(n) => Entry::Indexed(5, u64::from(n)),
+        ThyFunc::BvSignExtend(n) => Entry::Indexed(6, u64::from(n)),
         ThyFunc::IntToBv8 => Entry::Indexed(7, 8),
         ThyFunc::Bv8ToInt => Entry::Plain(8),
         ThyFunc::IntToBv32 => Entry::Indexed(9, 32),

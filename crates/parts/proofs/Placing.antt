@@ -1,5 +1,5 @@
 -- What the steps of putting parts add up to: fixed texts, the opening, the items of a section.
-use mathlib.Core.Path.{◌≡◌, refl, sym, ap, ◌∙◌}
+use mathlib.Core.Path.{◌≡◌, refl, sym}
 use mathlib.Core.Bool.{false}
 use mathlib.Core.List.{List, [], ◌∷◌, ◌++◌, map, nil≢cons}
 use Prim.Native.Nat.{ℕ, zero, suc, ◌<◌, ◌≤◌}
@@ -8,17 +8,11 @@ use lib.ListN.{length, take, length-take}
 use borrow.Author.Tests.{le-leb, lt-leb}
 use Rattle.smtlib.specs.Lexicon.{bytes}
 use Rattle.task.specs.declared.Fault.{Fault}
-use Rattle.task.specs.declared.Span.{Span}
-use Rattle.task.specs.declared.SpanRead.{SpanRead}
-use Rattle.task.specs.declared.SpanRead.TheVariants as span_is
 use Rattle.task.specs.Covers.{CoversSome}
-use Rattle.task.specs.Decode.{Res, got, bind, comment, datatype, constant, function, kvar, items, section}
+use Rattle.task.specs.Decode.{Res, got, refuse, bind, comment, datatype, constant, function, kvar, items, section}
 use Rattle.task.specs.Fault.{text_fault, datatype_fault, binder_fault, function_fault, kvar_fault}
-use Rattle.task.specs.Node.{bytes_of, span_of}
 use Rattle.task.proofs.Reading.{bind_got}
 use Rattle.task.proofs.Pieces.{each_covers}
-use Rattle.task_check.specs.declared.Walked.{Walked}
-use Rattle.task_check.specs.declared.Walked.TheVariants as walked_is
 use Rattle.task_check.proofs.Rows.{made_ends, made_none}
 use Rattle.item_check.specs.declared.Section.{Section}
 use Rattle.item_check.specs.declared.Section.TheVariants.{Comments, Datatypes, Constants, Functions, KVars}
@@ -52,15 +46,14 @@ all_of_lem parts d w w' at u a q g = (u a q g).1
 
 -- COMMENTS
 
-module _ (s : List ℕ) (at : ℕ) (o : Output) (v : SpanRead) (e : comment s at ≡ span_of s v) where
-  pub comment_refused : (o' : Output) (r : ℕ) → v ≡ span_is.Refused → Sends write_comment (comment s at) o o' r
-  comment_refused o' r e' = rw (e ∙ ap (span_of s) e') (sends_refused write_comment o o' r 2)
+module _ (s : List ℕ) (at : ℕ) (o : Output) where
+  pub comment_refused : (k : ℕ) (o' : Output) (r : ℕ) → comment s at ≡ refuse k → Sends write_comment (comment s at) o o' r
+  comment_refused k o' r e = rw e (sends_refused write_comment o o' r k)
 
-  pub comment_sent : (x : Span) (p : ℕ) (w : List ℕ) (o1 o2 o3 : Output) → v ≡ span_is.At x p → o1 ≡ emits o (bytes ";; ") → w ≡ bytes_of s x → o2 ≡ emits o1 w
+  pub comment_sent : (x : List ℕ) (p : ℕ) (o1 o2 o3 : Output) → comment s at ≡ got x p → o1 ≡ emits o (bytes ";; ") → o2 ≡ emits o1 x
       → o3 ≡ emit o2 10 → Sends write_comment (comment s at) o o3 p
   unfolding emits
-  comment_sent x p w o1 o2 o3 e' e1 ew e2 e3 =
-      rw (e ∙ ap (span_of s) e') (sends_end write_comment o o3 p (bytes_of s x) p refl (rw (e3, e2, e1, ew) (simp emits_append)))
+  comment_sent x p o1 o2 o3 e e1 e2 e3 = rw e (sends_end write_comment o o3 p x p refl (rw (e3, e2, e1) (simp emits_append)))
 
 pub comment_steps : Steps [] ◌∷◌ (λ (o : Output) (c : List ℕ). emits o (write_comment c)) (λ o cs. emits o (comment_lines cs))
 unfolding emits comment_lines
@@ -113,40 +106,36 @@ module _ (enc : Encoder) where
   item_covers Functions = covers_map function (write_fun_def enc) each_covers.functions
   item_covers KVars = covers_map kvar (write_kvar_decl enc) each_covers.kvars
 
-  -- an item by the section that it stands in
-  pub item_is : (i j : Section) (s : List ℕ) (at : ℕ) (o o' : Output) (r : ℕ) → i ≡ j → Sends itself (item_text enc j s at) o o' r → Sends itself (item_text enc i s at) o o' r
-  item_is i j s at o o' r e w = rw e w
-
 -- a piece of which the text is kept
 pub text_of : {A : Type 0} (text : A → List ℕ) (x : Res A) (o o' : Output) (r : ℕ) → Sends text x o o' r → Sends itself (bind x (λ a p. got (text a) p)) o o' r
 text_of text x o o' r w = sends_map itself text x o o' r w
 
-module _ (enc : Encoder) (s : List ℕ) (at : ℕ) (v : Walked) (t : List ℕ) (z : ℕ) where
-  item_ends : (i : Section) (q : ℕ) (f : Fault) → v ≡ item_walk i s at → v ≡ walked_is.Next f q → item_text enc i s at ≡ got t z → q ≡ z
+module _ (enc : Encoder) (s : List ℕ) (at : ℕ) (t : List ℕ) (z : ℕ) where
+  item_ends : (i : Section) (q : ℕ) (f : Fault) → got f q ≡ item_walk i s at → item_text enc i s at ≡ got t z → q ≡ z
   unfolding item_walk item_text
-  item_ends Comments q f e e' g = made_ends text_fault write_comment (comment s at) v e t z g q f e'
-  item_ends Datatypes q f e e' g = made_ends datatype_fault (write_datatype_decl enc) (datatype s at) v e t z g q f e'
-  item_ends Constants q f e e' g = made_ends binder_fault (write_const_decl enc) (constant s at) v e t z g q f e'
-  item_ends Functions q f e e' g = made_ends function_fault (write_fun_def enc) (function s at) v e t z g q f e'
-  item_ends KVars q f e e' g = made_ends kvar_fault (write_kvar_decl enc) (kvar s at) v e t z g q f e'
+  item_ends Comments q f e g = made_ends text_fault write_comment (comment s at) (got f q) e t z g q f refl
+  item_ends Datatypes q f e g = made_ends datatype_fault (write_datatype_decl enc) (datatype s at) (got f q) e t z g q f refl
+  item_ends Constants q f e g = made_ends binder_fault (write_const_decl enc) (constant s at) (got f q) e t z g q f refl
+  item_ends Functions q f e g = made_ends function_fault (write_fun_def enc) (function s at) (got f q) e t z g q f refl
+  item_ends KVars q f e g = made_ends kvar_fault (write_kvar_decl enc) (kvar s at) (got f q) e t z g q f refl
 
-  no_item : {B : Type 0} (i : Section) (k : ℕ) → v ≡ item_walk i s at → v ≡ walked_is.Refused k → item_text enc i s at ≡ got t z → B
+  no_item : {B : Type 0} (i : Section) (k : ℕ) → refuse k ≡ item_walk i s at → item_text enc i s at ≡ got t z → B
   unfolding item_walk item_text
-  no_item Comments k e e' g = made_none text_fault write_comment (comment s at) v e t z g k e'
-  no_item Datatypes k e e' g = made_none datatype_fault (write_datatype_decl enc) (datatype s at) v e t z g k e'
-  no_item Constants k e e' g = made_none binder_fault (write_const_decl enc) (constant s at) v e t z g k e'
-  no_item Functions k e e' g = made_none function_fault (write_fun_def enc) (function s at) v e t z g k e'
-  no_item KVars k e e' g = made_none kvar_fault (write_kvar_decl enc) (kvar s at) v e t z g k e'
+  no_item Comments k e g = made_none text_fault write_comment (comment s at) (refuse k) e t z g k refl
+  no_item Datatypes k e g = made_none datatype_fault (write_datatype_decl enc) (datatype s at) (refuse k) e t z g k refl
+  no_item Constants k e g = made_none binder_fault (write_const_decl enc) (constant s at) (refuse k) e t z g k refl
+  no_item Functions k e g = made_none function_fault (write_fun_def enc) (function s at) (refuse k) e t z g k refl
+  no_item KVars k e g = made_none kvar_fault (write_kvar_decl enc) (kvar s at) (refuse k) e t z g k refl
 
-module _ (enc : Encoder) (i : Section) (s : List ℕ) (at : ℕ) (v : Walked) (e : v ≡ item_walk i s at) where
-  pub item_out : (p p' : Progress) (xs ls : List ℕ) (q : ℕ) (f : Fault) → has p.range p.seen ≡ false → v ≡ walked_is.Next f q → p' ≡ passed p
+module _ (enc : Encoder) (i : Section) (s : List ℕ) (at : ℕ) where
+  pub item_out : (p p' : Progress) (xs ls : List ℕ) (q : ℕ) (f : Fault) → has p.range p.seen ≡ false → got f q ≡ item_walk i s at → p' ≡ passed p
       → Puts alone (item_text enc i s at) (writing p xs ls) (writing p' xs ls) q
   unfolding Puts puts
-  item_out p p' xs ls q f h e' u t z g = (item_ends enc s at v t z i q f e e' g, put_out p p' xs t ls h u)
+  item_out p p' xs ls q f h e u t z g = (item_ends enc s at t z i q f e g, put_out p p' xs t ls h u)
 
-  pub item_refused : (w w' : Writing) (q k : ℕ) → v ≡ walked_is.Refused k → Puts alone (item_text enc i s at) w w' q
+  pub item_refused : (w w' : Writing) (q k : ℕ) → refuse k ≡ item_walk i s at → Puts alone (item_text enc i s at) w w' q
   unfolding Puts
-  item_refused w w' q k e' t z g = no_item enc s at v t z i k e e' g
+  item_refused w w' q k e t z g = no_item enc s at t z i k e g
 
 -- the items of a section one by one
 pub section_steps : Steps [] ◌∷◌ (λ (w : Writing) (t : List ℕ). puts w (t ∷ [])) (λ w ts. puts w ts)

@@ -18,20 +18,18 @@ use item_check::Section;
 use output::Out;
 use path::Path;
 use smt_word::Sent;
-use task::SpanRead;
-use task_check::Walked;
 use trailer::Bounds;
 
 // Sends the line of the comment at a position.
+#[tactic(auto, using(crate::proofs::Placing::comment_refused, crate::proofs::Placing::comment_sent))]
 fn write_comment(s: &[u8], at: usize, buf: &mut [u8], out: Out) -> Sent
     ensures { Sends write_comment (comment s.now at) (output buf.old out.len) (output buf.new result.out.len) result.at }
 {
-    let read = task::read_text(s, at);
-    let SpanRead::At(x, p) = read else {
+    let Ok((x, p)) = task::read_text(s, at) else {
         return Sent { at, out };
     };
     let opened = out.bytes(buf, b";; ");
-    let told = opened.bytes(buf, task::bytes_of(s, x));
+    let told = opened.bytes(buf, x);
     let ended = told.byte(buf, b'\n');
     Sent { at: p, out: ended }
 }
@@ -40,18 +38,15 @@ fn write_comment(s: &[u8], at: usize, buf: &mut [u8], out: Out) -> Sent
 fn write_comments(s: &[u8], at: usize, buf: &mut [u8], out: Out) -> Sent
     ensures { Sends comment_lines (section_of comment s.now at) (output buf.old out.len) (output buf.new result.out.len) result.at }
 {
-    let mut p = at;
-    let mut sent = out;
-    while p < s.len() {
-        let one = write_comment(s, p, buf, sent);
-        let next = one.at;
-        if next <= p {
-            return Sent { at: p, out: sent };
+    let mut sent = Sent { at, out };
+    while sent.at < s.len() {
+        let next = write_comment(s, sent.at, buf, sent.out);
+        if next.at <= sent.at {
+            return sent;
         }
-        p = next;
-        sent = one.out;
+        sent = next;
     }
-    Sent { at: p, out: sent }
+    sent
 }
 
 // Sends the script's opening: the logic, and the comments with a blank line behind them if there are any.
@@ -63,15 +58,14 @@ fn write_opening(s: &[u8], at: usize, buf: &mut [u8], out: Out) -> Sent
         return Sent { at, out: opened };
     }
     let comments = write_comments(s, at, buf, opened);
-    let sent = comments.out;
-    let ended = sent.byte(buf, b'\n');
     Sent {
         at: comments.at,
-        out: ended,
+        out: comments.out.byte(buf, b'\n'),
     }
 }
 
 // Sends the text of the item at a position of a section.
+#[tactic(auto, using(crate::proofs::Placing::text_of), unfolding(crate::specs::Whole::item_text))]
 fn write_item(s: &[u8], at: usize, section: Section, enc: &[u16], buf: &mut [u8], out: Out) -> Sent
     requires { Chained s.now enc.now }
     ensures { Sends itself (item_text (encoder_in s.now enc.now) section s.now at) (output buf.old out.len) (output buf.new result.out.len) result.at }
@@ -86,34 +80,33 @@ fn write_item(s: &[u8], at: usize, section: Section, enc: &[u16], buf: &mut [u8]
 }
 
 // A fixed text as a part.
+#[tactic(auto, using(flatten::proofs::Lending::put_out))]
 fn put_text(text: &[u8], buf: &mut [u8], p: Progress, lengths: &mut [u32]) -> Progress
     ensures { writing result buf.new lengths.new ≡ put (writing p buf.old lengths.old) text.now }
 {
     if p.has_next() {
-        let len = p.len;
-        let start = output::least(len, buf.len());
-        let fresh = Out::new();
-        let sent = fresh.bytes(&mut buf[start..], text);
+        let start = p.len.min(buf.len());
+        let sent = Out::new().bytes(&mut buf[start..], text);
         return p.placed(sent.len, lengths);
     }
     p.passed()
 }
 
 // The opening as a part.
+#[tactic(auto, using(crate::proofs::Placing::part_out))]
 fn put_opening(s: &[u8], at: usize, buf: &mut [u8], p: Progress, lengths: &mut [u32]) -> Progress
     ensures { PutsAll opening_part (section_of comment s.now at) (writing p buf.old lengths.old) (writing result buf.new lengths.new) }
 {
     if p.has_next() {
-        let len = p.len;
-        let start = output::least(len, buf.len());
+        let start = p.len.min(buf.len());
         let sent = write_opening(s, at, &mut buf[start..], Out::new());
-        let out = sent.out;
-        return p.placed(out.len, lengths);
+        return p.placed(sent.out.len, lengths);
     }
     p.passed()
 }
 
 // The item at a position of a section as a part.
+#[tactic(auto, using(crate::proofs::Placing::item_out, crate::proofs::Placing::item_refused))]
 fn put_item(
     s: &[u8],
     at: usize,
@@ -127,17 +120,14 @@ fn put_item(
     ensures { Puts alone (item_text (encoder_in s.now enc.now) section s.now at) (writing p buf.old lengths.old) (writing result.progress buf.new lengths.new) result.at }
 {
     if p.has_next() {
-        let len = p.len;
-        let start = output::least(len, buf.len());
+        let start = p.len.min(buf.len());
         let sent = write_item(s, at, section, enc, &mut buf[start..], Out::new());
-        let out = sent.out;
         return Moved {
             at: sent.at,
-            progress: p.placed(out.len, lengths),
+            progress: p.placed(sent.out.len, lengths),
         };
     }
-    let walked = item_check::check_item(s, at, section);
-    let Walked::Next(_, q) = walked else {
+    let Ok((_, q)) = item_check::check_item(s, at, section) else {
         return Moved { at, progress: p };
     };
     Moved {
@@ -160,21 +150,19 @@ fn put_section(
     requires { Chained file.now enc.now × (end ≤ length file.now) }
     ensures { PutsAll each (section_of (item_text (encoder_in file.now enc.now) section) (take end file.now) at) (writing p buf.old lengths.old) (writing result buf.new lengths.new) }
 {
-    let mut q = at;
-    let mut progress = p;
-    while q < end {
-        let one = put_item(file, q, section, enc, buf, progress, lengths);
-        let next = one.at;
-        if next <= q {
-            return progress;
+    let mut moved = Moved { at, progress: p };
+    while moved.at < end {
+        let next = put_item(file, moved.at, section, enc, buf, moved.progress, lengths);
+        if next.at <= moved.at {
+            return moved.progress;
         }
-        q = next;
-        progress = one.progress;
+        moved = next;
     }
-    progress
+    moved.progress
 }
 
 // The items of a section of the file, each as a part.
+#[tactic(auto, using(declared::proofs::Gathering::ends_inside, crate::proofs::Scripts::section_put))]
 fn put_items(
     file: &[u8],
     b: Bounds,
@@ -193,6 +181,7 @@ fn put_items(
 }
 
 // The declarations in section order, each as a part.
+#[tactic(auto, using(crate::proofs::Scripts::declarations_put))]
 fn put_declarations(
     file: &[u8],
     b: Bounds,
@@ -211,6 +200,7 @@ fn put_declarations(
 }
 
 // The assertions, each as a part. The text of a path is kept in a lent one, whatever that holds: binders in its first half, guards in the other.
+#[tactic(auto, using(crate::proofs::Scripts::ready_start, crate::proofs::Scripts::assertions_put))]
 fn put_kept(
     file: &[u8],
     b: Bounds,
@@ -231,8 +221,23 @@ fn put_kept(
         kept: Kept::none(),
     };
     let walk = flatten::flatten_constraint(file, from, 256, Path::empty(), enc, buf, text, lengths);
-    let moved = walk.moved;
-    moved.progress
+    walk.moved.progress
+}
+
+// The same with room for N bytes of the text of a path.
+fn put_keeping<const N: usize>(
+    file: &[u8],
+    b: Bounds,
+    enc: &[u16],
+    buf: &mut [u8],
+    p: Progress,
+    lengths: &mut [u32],
+) -> Progress
+    requires { Inside file.now b × Chained file.now enc.now × (N ≤ 32768) }
+    ensures { PutsAll (assertion_parts file.now enc.now) (constraint_in file.now b) (writing p buf.old lengths.old) (writing result buf.new lengths.new) }
+{
+    let mut text = [0u8; N];
+    put_kept(file, b, enc, buf, p, &mut text, lengths)
 }
 
 // The assertions, each as a part. Where they are only measured no text is kept, and a short file does not wait for a long one to be cleared.
@@ -248,15 +253,12 @@ fn put_assertions(
     ensures { PutsAll (assertion_parts file.now enc.now) (constraint_in file.now b) (writing p buf.old lengths.old) (writing result buf.new lengths.new) }
 {
     if buf.len() == 0 {
-        let mut none = [0u8; 0];
-        return put_kept(file, b, enc, buf, p, &mut none, lengths);
+        put_keeping::<0>(file, b, enc, buf, p, lengths)
+    } else if file.len() <= 1000 {
+        put_keeping::<4096>(file, b, enc, buf, p, lengths)
+    } else {
+        put_keeping::<32768>(file, b, enc, buf, p, lengths)
     }
-    if file.len() <= 1000 {
-        let mut text = [0u8; 4096];
-        return put_kept(file, b, enc, buf, p, &mut text, lengths);
-    }
-    let mut text = [0u8; 32768];
-    put_kept(file, b, enc, buf, p, &mut text, lengths)
 }
 
 // Puts the parts in the range into the buffer, one behind the other, and their lengths into the table: what has room is stored, and all is
@@ -272,10 +274,8 @@ pub fn write_smt_horn(
     requires { Inside file.now b × Chained file.now enc.now }
     ensures { PutsScript file.now enc.now b (fresh range buf.old lengths.old) (writing result buf.new lengths.new) }
 {
-    let end = b.datatypes;
-    let at = b.comments;
     let p0 = Progress::start(range);
-    let p1 = put_opening(&file[..end], at, buf, p0, lengths);
+    let p1 = put_opening(&file[..b.datatypes], b.comments, buf, p0, lengths);
     let p2 = put_declarations(file, b, enc, buf, p1, lengths);
     let p3 = put_text(b"\n", buf, p2, lengths);
     let p4 = put_assertions(file, b, enc, buf, p3, lengths);
@@ -283,6 +283,7 @@ pub fn write_smt_horn(
 }
 
 // Counts the parts, measures those in the range and puts their lengths into the table.
+#[tactic(auto, using(crate::proofs::Scripts::measured))]
 pub fn measure(file: &[u8], b: Bounds, enc: &[u16], range: Range, lengths: &mut [u32]) -> Progress
     requires { Inside file.now b × Chained file.now enc.now }
     ensures { Measured file.now enc.now b range lengths.old result lengths.new }

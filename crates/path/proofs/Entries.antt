@@ -1,21 +1,12 @@
--- The offsets on a path: one more at the end, how many there are, and for how many more there is room.
-use mathlib.Core.Path.{◌≡◌, refl, sym, ◌∙◌}
-use mathlib.Core.List.{List, [], ◌∷◌, ◌++◌, map}
-use Prim.Native.Nat.{ℕ, ◌+◌, ◌<◌, ◌≤◌}
-use native.Mathlib.Numerals.{add-one}
+-- The offsets on a path: how many there are, and for how many more there is room.
+use mathlib.Core.Path.{◌≡◌}
+use mathlib.Core.List.{[], ◌∷◌, ◌++◌}
+use Prim.Native.Nat.{ℕ, ◌+◌, ◌≤◌}
 use native.Mathlib.Omega.{arith}
-use lib.ListN.{length, take, set, length-set, length-map}
-use lib.Seq.{take-suc-set, length-take-le}
+use lib.ListN.{length}
+use lib.Seq.{length-take-le}
 use Rattle.path.specs.declared.Path.{Path}
 use Rattle.path.specs.Offsets.{entries, Leaves}
-
--- what owning an array tells of its length
-pub sized : (xs : List ℕ) → length (map (λ (v : ℕ). v) xs) ≡ 256 → length xs ≡ 256
-sized xs e = sym (length-map xs (λ (v : ℕ). v)) ∙ e
-
-module _ (xs : List ℕ) (n x : ℕ) (h : length xs ≡ 256) (g : n < 256) where
-  pub pushed : (take (n + 1) (set xs n x) ≡ take n xs ++ x ∷ []) × (n + 1 ≡ n + 1) × (length (set xs n x) ≡ 256)
-  pushed = let k : n < length xs = omega arith in (rw (add-one n, take-suc-set xs n x k), refl, length-set xs n x ∙ h)
 
 -- as many as the depth says
 pub depth_is : (p : Path) (l : ℕ) → Leaves p l → length (entries p) ≡ p.depth

@@ -1,11 +1,11 @@
 // The path: the ForAlls around a place of the constraint, by value.
 #![tactic(auto)]
 
-ghost use Rattle.std.specs.Prelude.{◌≡◌, [], ◌∷◌, ◌++◌, ◌+◌, ◌<◌, length};
+ghost use Rattle.std.specs.Prelude.{◌≡◌, [], ◌∷◌, ◌++◌, ◌+◌, ◌<◌, ◌≤◌, length};
 ghost use Rattle.path.specs.Offsets.{entries};
 
 // The offset of each ForAll's name, the outermost first. A file has at most 60,000 bytes: two bytes hold an offset.
-#[derive(Clone, Copy)]
+#[derive(Clone, Copy, Debug)]
 pub struct Path {
     pub offsets: [u16; 256],
     pub depth: usize,
@@ -23,15 +23,21 @@ impl Path {
     }
 
     // One more ForAll, inside the others.
-    pub fn push(self, at: usize) -> Path
+    pub fn push(mut self, at: usize) -> Path
         requires { (self.depth < 256) × (at < 65536) }
         ensures { (entries result ≡ entries self ++ at ∷ []) × (result.depth ≡ self.depth + 1) × (length result.offsets ≡ 256) }
     {
-        let mut longer = self;
-        let n = self.depth;
-        longer.offsets[n] = at as u16;
-        longer.depth = n + 1;
-        longer
+        self.offsets[self.depth] = at as u16;
+        self.depth += 1;
+        self
+    }
+
+    // The offsets, the outermost first.
+    pub fn offsets(&self) -> &[u16]
+        requires { self.now.depth ≤ 256 }
+        ensures { (result.now ≡ entries self.now) × (length result.now ≡ self.now.depth) }
+    {
+        &self.offsets[..self.depth]
     }
 }
 
@@ -39,5 +45,5 @@ impl Path {
 pub fn position(offset: u16) -> usize
     ensures { result ≡ offset }
 {
-    offset as usize
+    usize::from(offset)
 }

@@ -9,24 +9,14 @@ use lib.ListN.{length}
 use borrow.Author.Tests.{eq-eqb, ne_eqb}
 use Rattle.task.specs.declared.Fault.{Fault}
 use Rattle.task.specs.declared.Fault.TheVariants.{Sound}
-use Rattle.task.specs.declared.Number.{Number}
-use Rattle.task.specs.declared.Number.TheVariants as number_is
-use Rattle.task.specs.declared.FlagRead.{FlagRead}
-use Rattle.task.specs.declared.FlagRead.TheVariants as flag_is
-use Rattle.task.specs.declared.Span.{Span}
-use Rattle.task.specs.declared.SpanRead.{SpanRead}
-use Rattle.task.specs.declared.SpanRead.TheVariants as span_is
 use Rattle.task.specs.Ast.{Sorts, Expr, FunBody}
 use Rattle.task.specs.Covers.{Covers}
-use Rattle.task.specs.Decode.{Res, got, bind, ◌▹◌, number, many, name, flag, dec_sort, dec_expr, deepest}
+use Rattle.task.specs.Decode.{Res, got, refuse, bind, ◌▹◌, number, many, name, flag, dec_sort, dec_expr, deepest}
 use Rattle.task.specs.Fault.{each, name_fault, sort_fault, sorts_fault, sorts_number}
 use Rattle.task.specs.Scope.{expr_scope, body_scope}
-use Rattle.task.specs.Node.{number_of, flag_of, bytes_of, span_of}
 use Rattle.task.proofs.Judging.{sound_lower}
 use Rattle.task.proofs.Covering.{forward, covers_many, covers_number}
 use Rattle.task.proofs.Pieces.{each_covers, wide_names, flags_cover}
-use Rattle.task_check.specs.declared.Walked.{Walked}
-use Rattle.task_check.specs.declared.Walked.TheVariants as walked_is
 use Rattle.task_check.specs.Walk.{walked}
 use Rattle.task_check.proofs.Rows.{after_sound, next_is}
 use Rattle.task_check.proofs.Exprs.{stops, goes, lasts}
@@ -50,23 +40,23 @@ same_names : (xs : List (List ℕ)) → map (λ x. x) xs ≡ xs
 same_names [] = refl
 same_names (x ∷ xs) = ap (λ (ys : List (List ℕ)). x ∷ ys) (same_names xs)
 
-module _ (s t : List ℕ) (at inputs : ℕ) (c : Space s t at × (3 * length (entries s t) + inputs ≤ at)) (m : Number) (e : number 2 s at ≡ number_of m) where
-  pub body_uncounted : m ≡ number_is.Refused → (walked_is.Refused 2 ≡ walked (body_in s t) (body_form inputs s at)) × Restored s t t
-  body_uncounted e' = (rw (e, e'), restored_all s t c.0.chained)
+module _ (s t : List ℕ) (at inputs : ℕ) (c : Space s t at × (3 * length (entries s t) + inputs ≤ at)) where
+  pub body_uncounted : (j : ℕ) → number 2 s at ≡ refuse j → (refuse j ≡ walked (body_in s t) (body_form inputs s at)) × Restored s t t
+  body_uncounted j e = (rw e, restored_all s t c.0.chained)
 
-  module _ (n p : ℕ) (e' : m ≡ number_is.Value n p) where
-    pub body_unmatched : (n ≡ inputs → ⊥) → (walked_is.Refused 6 ≡ walked (body_in s t) (body_form inputs s at)) × Restored s t t
-    body_unmatched z = (rw (e, e', ne_eqb n inputs z), restored_all s t c.0.chained)
+  module _ (n p : ℕ) (e : number 2 s at ≡ got n p) where
+    pub body_unmatched : (n ≡ inputs → ⊥) → (refuse 6 ≡ walked (body_in s t) (body_form inputs s at)) × Restored s t t
+    body_unmatched z = (rw (e, ne_eqb n inputs z), restored_all s t c.0.chained)
 
-    module _ (z : n ≡ inputs) (v : Walked) (i : v ≡ walked (each name_fault) (many [] ◌∷◌ name n s p)) where
-      from_count : (w : Walked) → w ≡ walked (body_in s t) (bind (many [] ◌∷◌ name n s p) (λ xs q. bind (dec_expr deepest s q) (λ d r. got (record { args = xs; expr = d }) r))) → w ≡ walked (body_in s t) (body_form inputs s at)
-      from_count w h = rw (e, e', eq-eqb n inputs z) h
+    module _ (z : n ≡ inputs) where
+      from_count : (w : Res Fault) → w ≡ walked (body_in s t) (bind (many [] ◌∷◌ name n s p) (λ xs q. bind (dec_expr deepest s q) (λ d r. got (record { args = xs; expr = d }) r))) → w ≡ walked (body_in s t) (body_form inputs s at)
+      from_count w h = rw (e, eq-eqb n inputs z) h
 
-      pub body_args_stop : (j : ℕ) → v ≡ walked_is.Refused j → (v ≡ walked (body_in s t) (body_form inputs s at)) × Restored s t t
-      body_args_stop j i' =
-          (from_count v (stops (each name_fault) (body_in s t) (many [] ◌∷◌ name n s p) (λ xs q. bind (dec_expr deepest s q) (λ d r. got (record { args = xs; expr = d }) r)) v j i i'), restored_all s t c.0.chained)
+      pub body_args_stop : (j : ℕ) → refuse j ≡ walked (each name_fault) (many [] ◌∷◌ name n s p) → (refuse j ≡ walked (body_in s t) (body_form inputs s at)) × Restored s t t
+      body_args_stop j i =
+          (from_count (refuse j) (stops (each name_fault) (body_in s t) (many [] ◌∷◌ name n s p) (λ xs q. bind (dec_expr deepest s q) (λ d r. got (record { args = xs; expr = d }) r)) j i), restored_all s t c.0.chained)
 
-      module _ (q : ℕ) (f : Fault) (i' : v ≡ walked_is.Next f q) (u : List ℕ) (r : ℕ) (w : Collects (row_symbols (alone Bound)) (many [] ◌∷◌ name n s p) s t u r) where
+      module _ (f : Fault) (q : ℕ) (i : got f q ≡ walked (each name_fault) (many [] ◌∷◌ name n s p)) (u : List ℕ) (r : ℕ) (w : Collects (row_symbols (alone Bound)) (many [] ◌∷◌ name n s p) s t u r) where
         module _ (xs : List (List ℕ)) (g : many [] ◌∷◌ name n s p ≡ got xs q) where
           roomy : 3 * (length (entries s t) + n) ≤ q
           roomy =
@@ -74,7 +64,7 @@ module _ (s t : List ℕ) (at inputs : ℕ) (c : Space s t at × (3 * length (en
               let a = y.room in
               let o = y.end in
               let k = many_size [] ◌∷◌ length refl (λ a r. refl) name s n p xs q g in
-              let b = forward (number 2) (covers_number 2) s at n p (e ∙ ap number_of e') in
+              let b = forward (number 2) (covers_number 2) s at n p e in
               let d = c.1 in
               omega arith
 
@@ -97,13 +87,13 @@ module _ (s t : List ℕ) (at inputs : ℕ) (c : Space s t at × (3 * length (en
           args_end u3 u4 a o = row_ends (λ x. x) name s t u n p r xs q g w c.0.short c.0.words roomy few u3 u4 a o
 
         pub body_space : Space s u q
-        body_space = let y = next_is (each name_fault) (many [] ◌∷◌ name n s p) q f (sym i' ∙ i) in args_space y.value y.is
+        body_space = let y = next_is (each name_fault) (many [] ◌∷◌ name n s p) q f i in args_space y.value y.is
 
-        pub body_walks : (x : Walked) (u3 u4 : List ℕ) → (x ≡ walked (expr_in s u) (dec_expr deepest s q)) × Restored s u u3 → Popped s u3 n u4
+        pub body_walks : (x : Res Fault) (u3 u4 : List ℕ) → (x ≡ walked (expr_in s u) (dec_expr deepest s q)) × Restored s u u3 → Popped s u3 n u4
             → (x ≡ walked (body_in s t) (body_form inputs s at)) × Restored s t u4
         body_walks x u3 u4 a o =
-            let y = next_is (each name_fault) (many [] ◌∷◌ name n s p) q f (sym i' ∙ i) in (
-              from_count x (goes (each name_fault) (body_in s t) (many [] ◌∷◌ name n s p) (λ xs q. bind (dec_expr deepest s q) (λ d r. got (record { args = xs; expr = d }) r)) v q f x i i'
+            let y = next_is (each name_fault) (many [] ◌∷◌ name n s p) q f i in (
+              from_count x (goes (each name_fault) (body_in s t) (many [] ◌∷◌ name n s p) (λ xs q. bind (dec_expr deepest s q) (λ d r. got (record { args = xs; expr = d }) r)) q f x i
                   (λ xs g k. a.0 ∙ ap (λ (h : Expr → Fault). walked h (dec_expr deepest s q)) (in_body xs g)
                   ∙ sym (after_sound (walked (expr_scope (ctors_in s t) (vars_in s t ++ xs)) (dec_expr deepest s q)))
                   ∙ lasts (expr_scope (ctors_in s t) (vars_in s t ++ xs)) (body_in s t) (dec_expr deepest s q) (λ d. record { args = xs; expr = d }) Sound (λ d. sym (sound_lower (expr_scope (ctors_in s t) (vars_in s t ++ xs) d))))),
@@ -115,83 +105,83 @@ module _ (s t : List ℕ) (at inputs : ℕ) (c : Space s t at × (3 * length (en
 sorts_wide : (n : ℕ) → Covers (λ bs. sorts_number bs) (many Sorts.none Sorts.more (dec_sort deepest) n)
 sorts_wide n = covers_many (λ bs. sorts_number bs) (λ b. 1) Sorts.none Sorts.more (dec_sort deepest) (omega arith) (λ b bs. omega arith) (each_covers.sorts deepest) n
 
-module _ (s t : List ℕ) (at : ℕ) (c : Space s t at) (m : Number) (e : number 2 s at ≡ number_of m) where
+module _ (s t : List ℕ) (at : ℕ) (c : Space s t at) where
   from_inputs : Sorts → ℕ → Res (Option FunBody)
   from_inputs ins p = (dec_sort deepest ▹ λ out. flag ▹ λ b. perhaps_body b (sorts_number ins)) s p
 
-  pub signature_uncounted : m ≡ number_is.Refused → (walked_is.Refused 2 ≡ walked (perhaps_in s t) (signature_form s at)) × Restored s t t
-  signature_uncounted e' = (rw (e, e'), restored_all s t c.chained)
+  pub signature_uncounted : (j : ℕ) → number 2 s at ≡ refuse j → (refuse j ≡ walked (perhaps_in s t) (signature_form s at)) × Restored s t t
+  signature_uncounted j e = (rw e, restored_all s t c.chained)
 
-  module _ (n p : ℕ) (e' : m ≡ number_is.Value n p) (v : Walked) (i : v ≡ walked sorts_fault (many Sorts.none Sorts.more (dec_sort deepest) n s p)) where
-    from_count' : (w : Walked) → w ≡ walked (perhaps_in s t) (bind (many Sorts.none Sorts.more (dec_sort deepest) n s p) from_inputs) → w ≡ walked (perhaps_in s t) (signature_form s at)
+  module _ (n p : ℕ) (e : number 2 s at ≡ got n p) where
+    from_count' : (w : Res Fault) → w ≡ walked (perhaps_in s t) (bind (many Sorts.none Sorts.more (dec_sort deepest) n s p) from_inputs) → w ≡ walked (perhaps_in s t) (signature_form s at)
     unfolding from_inputs
-    from_count' w h = rw (e, e') h
+    from_count' w h = rw e h
 
-    pub signature_inputs_stop : (j : ℕ) → v ≡ walked_is.Refused j → (v ≡ walked (perhaps_in s t) (signature_form s at)) × Restored s t t
-    signature_inputs_stop j i' = (from_count' v (stops sorts_fault (perhaps_in s t) (many Sorts.none Sorts.more (dec_sort deepest) n s p) from_inputs v j i i'), restored_all s t c.chained)
+    pub signature_inputs_stop : (j : ℕ) → refuse j ≡ walked sorts_fault (many Sorts.none Sorts.more (dec_sort deepest) n s p) → (refuse j ≡ walked (perhaps_in s t) (signature_form s at)) × Restored s t t
+    signature_inputs_stop j i = (from_count' (refuse j) (stops sorts_fault (perhaps_in s t) (many Sorts.none Sorts.more (dec_sort deepest) n s p) from_inputs j i), restored_all s t c.chained)
 
-    module _ (q : ℕ) (f : Fault) (i' : v ≡ walked_is.Next f q) (v2 : Walked) (k : v2 ≡ walked (sort_fault false) (dec_sort deepest s q)) where
-      by_inputs : (w : Walked) → ((ins : Sorts) → sorts_number ins ≡ n → w ≡ walked (perhaps_in s t) (from_inputs ins q)) → w ≡ walked (perhaps_in s t) (signature_form s at)
+    module _ (f : Fault) (q : ℕ) (i : got f q ≡ walked sorts_fault (many Sorts.none Sorts.more (dec_sort deepest) n s p)) where
+      by_inputs : (w : Res Fault) → ((ins : Sorts) → sorts_number ins ≡ n → w ≡ walked (perhaps_in s t) (from_inputs ins q)) → w ≡ walked (perhaps_in s t) (signature_form s at)
       by_inputs w h =
-          from_count' w (goes sorts_fault (perhaps_in s t) (many Sorts.none Sorts.more (dec_sort deepest) n s p) from_inputs v q f w i i'
+          from_count' w (goes sorts_fault (perhaps_in s t) (many Sorts.none Sorts.more (dec_sort deepest) n s p) from_inputs q f w i
           (λ ins g d. h ins (many_size Sorts.none Sorts.more sorts_number refl (λ a r. refl) (dec_sort deepest) s n p ins q g)))
 
-      pub signature_output_stop : (j : ℕ) → v2 ≡ walked_is.Refused j → (v2 ≡ walked (perhaps_in s t) (signature_form s at)) × Restored s t t
+      pub signature_output_stop : (j : ℕ) → refuse j ≡ walked (sort_fault false) (dec_sort deepest s q) → (refuse j ≡ walked (perhaps_in s t) (signature_form s at)) × Restored s t t
       unfolding from_inputs
-      signature_output_stop j k' =
-          (by_inputs v2 (λ ins z. stops (sort_fault false) (perhaps_in s t) (dec_sort deepest s q) (λ out r. (flag ▹ λ b. perhaps_body b (sorts_number ins)) s r) v2 j k k'), restored_all s t c.chained)
+      signature_output_stop j k =
+          (by_inputs (refuse j) (λ ins z. stops (sort_fault false) (perhaps_in s t) (dec_sort deepest s q) (λ out r. (flag ▹ λ b. perhaps_body b (sorts_number ins)) s r) j k), restored_all s t c.chained)
 
-      module _ (r : ℕ) (f2 : Fault) (k' : v2 ≡ walked_is.Next f2 r) (l : FlagRead) (d : flag s r ≡ flag_of l) where
-        by_output : (w : Walked) → ((ins : Sorts) → sorts_number ins ≡ n → w ≡ walked (perhaps_in s t) ((flag ▹ λ b. perhaps_body b (sorts_number ins)) s r)) → w ≡ walked (perhaps_in s t) (signature_form s at)
+      module _ (f2 : Fault) (r : ℕ) (k : got f2 r ≡ walked (sort_fault false) (dec_sort deepest s q)) where
+        by_output : (w : Res Fault) → ((ins : Sorts) → sorts_number ins ≡ n → w ≡ walked (perhaps_in s t) ((flag ▹ λ b. perhaps_body b (sorts_number ins)) s r)) → w ≡ walked (perhaps_in s t) (signature_form s at)
         unfolding from_inputs
         by_output w h =
-            by_inputs w (λ ins z. goes (sort_fault false) (perhaps_in s t) (dec_sort deepest s q) (λ out r. (flag ▹ λ b. perhaps_body b (sorts_number ins)) s r) v2 r f2 w k k' (λ out g y. h ins z))
+            by_inputs w (λ ins z. goes (sort_fault false) (perhaps_in s t) (dec_sort deepest s q) (λ out r. (flag ▹ λ b. perhaps_body b (sorts_number ins)) s r) r f2 w k (λ out g y. h ins z))
 
-        pub signature_unflagged : l ≡ flag_is.Refused → (walked_is.Refused 2 ≡ walked (perhaps_in s t) (signature_form s at)) × Restored s t t
-        signature_unflagged d' = (by_output (walked_is.Refused 2) (λ ins z. rw (d, d')), restored_all s t c.chained)
+        pub signature_unflagged : (j : ℕ) → flag s r ≡ refuse j → (refuse j ≡ walked (perhaps_in s t) (signature_form s at)) × Restored s t t
+        signature_unflagged j d = (by_output (refuse j) (λ ins z. rw d), restored_all s t c.chained)
 
-        module _ (b : Bool) (t2 : ℕ) (d' : l ≡ flag_is.Flag b t2) where
-          pub signature_none : b ≡ false → (walked_is.Next Sound t2 ≡ walked (perhaps_in s t) (signature_form s at)) × Restored s t t
+        module _ (b : Bool) (t2 : ℕ) (d : flag s r ≡ got b t2) where
+          pub signature_none : b ≡ false → (got Sound t2 ≡ walked (perhaps_in s t) (signature_form s at)) × Restored s t t
           unfolding body_scope
-          signature_none h = (by_output (walked_is.Next Sound t2) (λ ins z. rw (d, d', h)), restored_all s t c.chained)
+          signature_none h = (by_output (got Sound t2) (λ ins z. rw (d, h)), restored_all s t c.chained)
 
           pub signature_space : Space s t t2 × (3 * length (entries s t) + n ≤ t2)
           signature_space =
-              let y = next_is sorts_fault (many Sorts.none Sorts.more (dec_sort deepest) n s p) q f (sym i' ∙ i) in
+              let y = next_is sorts_fault (many Sorts.none Sorts.more (dec_sort deepest) n s p) q f i in
               let o = (sorts_wide n).covered s p y.value q y.is in
               let a = o.room in
               let b1 = o.end in
               let g = many_size Sorts.none Sorts.more sorts_number refl (λ a r. refl) (dec_sort deepest) s n p y.value q y.is in
-              let h = forward (number 2) (covers_number 2) s at n p (e ∙ ap number_of e') in
-              let h2 = walked_on (sort_fault false) (dec_sort deepest) (each_covers.sorts deepest) s q v2 r f2 k k' in
-              let h3 = forward flag flags_cover s r b t2 (d ∙ ap flag_of d') in
+              let h = forward (number 2) (covers_number 2) s at n p e in
+              let h2 = walked_on (sort_fault false) (dec_sort deepest) (each_covers.sorts deepest) s q r f2 k in
+              let h3 = forward flag flags_cover s r b t2 d in
               let h4 = c.room in
               (space_on s t at t2 c (omega arith), omega arith)
 
-          pub signature_body : (w : Walked) (u : List ℕ) → b ≡ true → (w ≡ walked (body_in s t) (body_form n s t2)) × Restored s t u → (w ≡ walked (perhaps_in s t) (signature_form s at)) × Restored s t u
+          pub signature_body : (w : Res Fault) (u : List ℕ) → b ≡ true → (w ≡ walked (body_in s t) (body_form n s t2)) × Restored s t u → (w ≡ walked (perhaps_in s t) (signature_form s at)) × Restored s t u
           unfolding body_scope
           signature_body w u h a = (
-            by_output w (λ ins z. rw (d, d', h, z) (a.0 ∙ sym (after_sound (walked (body_in s t) (body_form n s t2)))
+            by_output w (λ ins z. rw (d, h, z) (a.0 ∙ sym (after_sound (walked (body_in s t) (body_form n s t2)))
                 ∙ lasts (body_in s t) (perhaps_in s t) (body_form n s t2) some Sound (λ o. sym (sound_lower (body_in s t o))))),
             a.1,
           )
 
 -- A FUNCTION
 
-module _ (s t : List ℕ) (at : ℕ) (c : Space s t at) (x : SpanRead) (e : name s at ≡ span_of s x) where
-  pub function_unnamed : x ≡ span_is.Refused → (walked_is.Refused 2 ≡ walked (perhaps_in s t) (function_form s at)) × Restored s t t
-  function_unnamed e' = (rw (e, e'), restored_all s t c.chained)
+module _ (s t : List ℕ) (at : ℕ) (c : Space s t at) where
+  pub function_unnamed : (j : ℕ) → name s at ≡ refuse j → (refuse j ≡ walked (perhaps_in s t) (function_form s at)) × Restored s t t
+  function_unnamed j e = (rw e, restored_all s t c.chained)
 
-  module _ (y : Span) (p : ℕ) (e' : x ≡ span_is.At y p) (m : Number) (d : number 2 s p ≡ number_of m) where
-    pub function_unparameterized : m ≡ number_is.Refused → (walked_is.Refused 2 ≡ walked (perhaps_in s t) (function_form s at)) × Restored s t t
-    function_unparameterized d' = (rw (e, e', d, d'), restored_all s t c.chained)
+  module _ (y : List ℕ) (p : ℕ) (e : name s at ≡ got y p) where
+    pub function_unparameterized : (j : ℕ) → number 2 s p ≡ refuse j → (refuse j ≡ walked (perhaps_in s t) (function_form s at)) × Restored s t t
+    function_unparameterized j d = (rw (e, d), restored_all s t c.chained)
 
-    module _ (n q : ℕ) (d' : m ≡ number_is.Value n q) where
+    module _ (n q : ℕ) (d : number 2 s p ≡ got n q) where
       pub function_space : Space s t q
       function_space =
-          let a = forward name wide_names s at (bytes_of s y) p (e ∙ ap (span_of s) e') in
-          let b = forward (number 2) (covers_number 2) s p n q (d ∙ ap number_of d') in
+          let a = forward name wide_names s at y p e in
+          let b = forward (number 2) (covers_number 2) s p n q d in
           space_on s t at q c (omega arith)
 
-      pub function_walks : (w : Walked) (u : List ℕ) → (w ≡ walked (perhaps_in s t) (signature_form s q)) × Restored s t u → (w ≡ walked (perhaps_in s t) (function_form s at)) × Restored s t u
-      function_walks w u a = (rw (e, e', d, d') a.0, a.1)
+      pub function_walks : (w : Res Fault) (u : List ℕ) → (w ≡ walked (perhaps_in s t) (signature_form s q)) × Restored s t u → (w ≡ walked (perhaps_in s t) (function_form s at)) × Restored s t u
+      function_walks w u a = (rw (e, d) a.0, a.1)

@@ -12,7 +12,7 @@ use Rattle.task.specs.declared.Fault.{Fault}
 use Rattle.task.specs.declared.Fault.TheVariants.{Arity, Sound}
 use Rattle.task.specs.Ast.{Sorts, FunBody, FunDef}
 use Rattle.task.specs.Covers.{Covers, CoversSome}
-use Rattle.task.specs.Decode.{got, bind, Decoder, give, refusal, ◌▹◌, number, many, counted, name, flag, dec_sort, dec_expr, body, function, items, deepest}
+use Rattle.task.specs.Decode.{got, refuse, bind, Decoder, give, refusal, ◌▹◌, number, many, counted, name, flag, dec_sort, dec_expr, body, function, items, deepest}
 use Rattle.task.specs.Run.{Runs}
 use Rattle.task.specs.Fault.{lower, each, refusal_of, unless, sorts_fault, sort_fault, sorts_number, name_fault, expr_fault, arity_fault, body_fault, function_fault}
 use Rattle.task.specs.Scope.{body_scope, functions_scope}
@@ -23,8 +23,6 @@ use Rattle.task.proofs.Running.{Steps}
 use Rattle.task.proofs.Covering.{covers_refusal, covers_give, covers_cond, covers_bind, covers_number}
 use Rattle.task.proofs.Pieces.{CoversAny, any, nothing, ◌⟫◌, any_number, any_many, any_counted, each_covers, wide_names, flags_cover}
 use Rattle.task.proofs.Sections.{in_whole, Over, over_start, over_more, over_stuck, over_end}
-use Rattle.task_check.specs.declared.Walked.{Walked}
-use Rattle.task_check.specs.declared.Walked.TheVariants as walked_is
 use Rattle.task_check.specs.Walk.{walked}
 use Rattle.task_check.proofs.Rows.{next_is, refused_is}
 use Rattle.item_check.proofs.Walks.{many_size}
@@ -257,28 +255,28 @@ module _ (file : List ℕ) (at end : ℕ) (t : List ℕ) where
   pub judging_start : Space file t at → Judging t at Sound
   judging_start c = record { space = c; words = refl; over = over_start seeing sound_function sound_covers (take end file) at (seen Sound (entries file t)) }
 
-  module _ (l : end ≤ length file) (u : List ℕ) (p : ℕ) (f : Fault) (j : Judging u p f) (h : p < end) (v : Walked) (u1 : List ℕ) (k : (v ≡ walked (perhaps_in file u) (function_form file p)) × Restored file u u1) where
+  module _ (l : end ≤ length file) (u : List ℕ) (p : ℕ) (f : Fault) (j : Judging u p f) (h : p < end) (u1 : List ℕ) where
     short_end : length (take end file) ≡ end
     short_end = let m = length-take end file in omega arith
 
-    module _ (q : ℕ) (g f' : Fault) (i : v ≡ walked_is.Next g q) (u2 : List ℕ) (w : Pushed file u1 p 5 u2) (m : f' ≡ lower f g) where
+    module _ (g : Fault) (q : ℕ) (k : (got g q ≡ walked (perhaps_in file u) (function_form file p)) × Restored file u u1) (f' : Fault) (u2 : List ℕ) (w : Pushed file u1 p 5 u2) (m : f' ≡ lower f g) where
       ran : Runs see (sound_function (take end file) p) (seen f (entries file u)) (seen f' (entries file u2)) q
       unfolding see seen ctors_in vars_in
       ran a p1 e =
           let s = sound_is (take end file) p a p1 e in
           let d = in_whole function each_covers.functions file end p a p1 s.is in
-          let y = next_is (perhaps_in file u) (function_form file p) q g (sym i ∙ k.0) in
+          let y = next_is (perhaps_in file u) (function_form file p) q g k.0 in
           let z : got y.value q ≡ got a.body p1 = sym y.is ∙ function_read file p a p1 d (fault_sound (function_fault a) (got a 0) a 0 (rw s.zero)) in
           let b : y.value ≡ a.body = same_value z in
           let x = function_begins file p a p1 d in
           (got_next z, pair (m ∙ ap (lower f) (sym y.fault ∙ ap (perhaps_in file u) b)) (added file u u1 u2 p j.space k.1 w y.value q y.is a.name x.next x.is))
 
       pub judging_less : p < q
-      judging_less = let y = next_is (perhaps_in file u) (function_form file p) q g (sym i ∙ k.0) in let z = after_it file u u1 u2 p j.space k.1 w y.value q y.is in omega arith
+      judging_less = let y = next_is (perhaps_in file u) (function_form file p) q g k.0 in let z = after_it file u u1 u2 p j.space k.1 w y.value q y.is in omega arith
 
       pub judging_more : Judging u2 q f'
       judging_more =
-          let y = next_is (perhaps_in file u) (function_form file p) q g (sym i ∙ k.0) in
+          let y = next_is (perhaps_in file u) (function_form file p) q g k.0 in
           let n = short_end in
           record {
             space = next_space file u u1 u2 p j.space k.1 w y.value q y.is;
@@ -287,8 +285,8 @@ module _ (file : List ℕ) (at end : ℕ) (t : List ℕ) where
           }
 
     -- no function is there
-    pub judging_stuck : (n : ℕ) → v ≡ walked_is.Refused n → FunctionsJudged file at end t f u1
-    judging_stuck n i =
+    pub judging_stuck : (n : ℕ) → (refuse n ≡ walked (perhaps_in file u) (function_form file p)) × Restored file u u1 → FunctionsJudged file at end t f u1
+    judging_stuck n k =
         let m = short_end in
         record {
           chained = k.1.chained;
@@ -297,7 +295,7 @@ module _ (file : List ℕ) (at end : ℕ) (t : List ℕ) where
               let z = over_stuck seeing sound_function sound_covers (take end file) at (seen Sound (entries file t)) p (seen f (entries file u)) (seen f (entries file u)) (seen f (entries file u1)) p q (omega arith) j.over
               (λ a p1 d. let y = sound_is (take end file) p a p1 d in
               let x = in_whole function each_covers.functions file end p a p1 y.is in
-              got_refuse (sym (function_read file p a p1 x (fault_sound (function_fault a) (got a 0) a 0 (rw y.zero))) ∙ refused_is (perhaps_in file u) (function_form file p) n (sym i ∙ k.0)))
+              got_refuse (sym (function_read file p a p1 x (fault_sound (function_fault a) (got a 0) a 0 (rw y.zero))) ∙ refused_is (perhaps_in file u) (function_form file p) n k.0))
               (omega arith) fs q (items_sound (take end file) (length (take end file)) at fs q e s) in
               told u1 f fs z.1;
         }

@@ -1,20 +1,19 @@
 -- What a table says of names before and behind a scope, and pieces in a row that are walked with it.
-use mathlib.Core.Path.{◌≡◌, refl, sym, ap, ◌∙◌}
+use mathlib.Core.Path.{◌≡◌, refl, ap, ◌∙◌}
 use mathlib.Core.List.{List, [], ◌∷◌, ◌++◌, map, append-nil}
 use Prim.Native.Nat.{ℕ, zero, suc, ◌+◌, ◌*◌, ◌-◌, ◌≤◌, ◌<◌}
 use native.Mathlib.Omega.{arith}
 use lib.ListN.{length, length-append}
 use borrow.Author.Tests.{lt-ltb, le-leb}
 use Rattle.task.specs.declared.Fault.{Fault}
+use Rattle.task.specs.declared.Fault.TheVariants.{Sound}
 use Rattle.task.specs.Covers.{Covers}
-use Rattle.task.specs.Decode.{got, Decoder, many, name}
+use Rattle.task.specs.Decode.{Res, got, refuse, Decoder, many, name}
 use Rattle.task.specs.Fault.{lower}
 use Rattle.task.proofs.Covering.{forward}
 use Rattle.item_check.proofs.Walks.{many_size}
-use Rattle.task_check.specs.declared.Walked.{Walked}
-use Rattle.task_check.specs.declared.Walked.TheVariants as walked_is
 use Rattle.task_check.specs.Walk.{walked, after}
-use Rattle.task_check.proofs.Rows.{Fold, next_is, row_goes, row_stops, row_ends as row_done}
+use Rattle.task_check.proofs.Rows.{Fold, next_is, row_starts, row_goes, row_stops, row_ends as row_done}
 use Rattle.names.specs.declared.Kind.TheVariants.{Bound}
 use Rattle.names.specs.Table.{Symbol, symbol, entries, names_of, room_for, add}
 use Rattle.names.specs.Change.{Pushed, Popped, Restored}
@@ -38,9 +37,8 @@ space_kept s t u at x r =
     record { chained = r.chained; short = x.short; words = omega arith; few = rw r.are x.few; room = rw r.are x.room }
 
 -- where a walk ended
-pub walked_on : {A : Type 0} {size : A → ℕ} (one : A → Fault) (d : Decoder A) → Covers size d → (s : List ℕ) (at : ℕ) (v : Walked) (q : ℕ) (f : Fault) → v ≡ walked one (d s at)
-    → v ≡ walked_is.Next f q → at ≤ q
-walked_on one d c s at v q f e e' = let y = next_is one (d s at) q f (sym e' ∙ e) in forward d c s at y.value q y.is
+pub walked_on : {A : Type 0} {size : A → ℕ} (one : A → Fault) (d : Decoder A) → Covers size d → (s : List ℕ) (at q : ℕ) (f : Fault) → got f q ≡ walked one (d s at) → at ≤ q
+walked_on one d c s at q f e = let y = next_is one (d s at) q f e in forward d c s at y.value q y.is
 
 -- NAMES
 
@@ -101,35 +99,34 @@ bound_one s t u at x p c l e h g w =
 -- pieces in a row: n from `at` on, each judged by the table as it is then
 module _ {A R : Type 0} {end : R} {more : A → R → R} {size : A → ℕ} (one : List ℕ → A → Fault) (all : List ℕ → R → Fault) (fold : (t : List ℕ) → Fold end more (one t) (all t)) (d : Decoder A)
     (c : Covers size d) (s : List ℕ) (keeps : (t u : List ℕ) → Restored s t u → one u ≡ one t) (t : List ℕ) (n at : ℕ) where
-  -- the loop: `left` from p on are left, f is the fault so far, and t has become u
-  pub record Along (u : List ℕ) (left p : ℕ) (f : Fault) : Type 0 where
+  -- the loop: i were walked, the others stand from p on, f is the fault so far, and t has become u
+  pub record Along (u : List ℕ) (i p : ℕ) (f : Fault) : Type 0 where
     pub restored : Restored s t u
     pub space : Space s u p
-    pub owes : after f (walked (all t) (many end more d left s p)) ≡ walked (all t) (many end more d n s at)
+    pub owes : after f (walked (all t) (many end more d (n - i) s p)) ≡ walked (all t) (many end more d n s at)
 
-  pub along_start : (f : Fault) → Space s t at → after f (walked (all t) (many end more d n s at)) ≡ walked (all t) (many end more d n s at) → Along t n at f
-  along_start f x e = record { restored = restored_all s t x.chained; space = x; owes = e }
+  pub along_starts : Space s t at → Along t 0 at Sound
+  along_starts x = record { restored = restored_all s t x.chained; space = x; owes = row_starts (fold t) d s n at }
 
-  module _ (u : List ℕ) (left p : ℕ) (f : Fault) (a : Along u left p f) (h : 0 < left) (v : Walked) (u' : List ℕ) (e : (v ≡ walked (one u) (d s p)) × Restored s u u') where
-    judged : v ≡ walked (one t) (d s p)
-    judged = e.0 ∙ ap (λ (o : A → Fault). walked o (d s p)) (keeps t u a.restored)
+  module _ (u : List ℕ) (i p : ℕ) (f : Fault) (a : Along u i p f) where
+    module _ (h : i < n) (u' : List ℕ) where
+      judged : (v : Res Fault) → v ≡ walked (one u) (d s p) → v ≡ walked (one t) (d s p)
+      judged v e = e ∙ ap (λ (o : A → Fault). walked o (d s p)) (keeps t u a.restored)
 
-    back : Restored s t u'
-    back = restored_both s t u u' a.restored e.1
+      pub along_goes : (q : ℕ) (g f' : Fault) → (got g q ≡ walked (one u) (d s p)) × Restored s u u' → f' ≡ lower f g → Along u' (i + 1) q f'
+      along_goes q g f' e k =
+          record {
+            restored = restored_both s t u u' a.restored e.1;
+            space = space_on s u' p q (space_kept s u u' p a.space e.1) (walked_on (one t) d c s p q g (judged (got g q) e.0));
+            owes = rw k (row_goes (fold t) d s n i p f (walked (all t) (many end more d n s at)) q g h (judged (got g q) e.0) a.owes);
+          }
 
-    pub along_more : (q : ℕ) (g f' : Fault) → v ≡ walked_is.Next g q → f' ≡ lower f g → Along u' (left - 1) q f'
-    along_more q g f' e' k =
-        record {
-          restored = back;
-          space = space_on s u' p q (space_kept s u u' p a.space e.1) (walked_on (one t) d c s p v q g judged e');
-          owes = row_goes (fold t) d s left p f (walked (all t) (many end more d n s at)) v q g f' h judged e' k a.owes;
-        }
+      pub along_stops : (k : ℕ) → (refuse k ≡ walked (one u) (d s p)) × Restored s u u' → (refuse k ≡ walked (all t) (many end more d n s at)) × Restored s t u'
+      along_stops k e =
+          (row_stops (fold t) d s n i p f (walked (all t) (many end more d n s at)) k h (judged (refuse k) e.0) a.owes, restored_both s t u u' a.restored e.1)
 
-    pub along_stops : (k : ℕ) → v ≡ walked_is.Refused k → (v ≡ walked (all t) (many end more d n s at)) × Restored s t u'
-    along_stops k e' = (row_stops (fold t) d s left p f (walked (all t) (many end more d n s at)) v k h judged e' a.owes, back)
-
-  pub along_ends : (u : List ℕ) (left p : ℕ) (f : Fault) → Along u left p f → left ≤ 0 → (walked_is.Next f p ≡ walked (all t) (many end more d n s at)) × Restored s t u
-  along_ends u left p f a h = (row_done (fold t) d s left p f (walked (all t) (many end more d n s at)) h a.owes, a.restored)
+    pub along_ends : n ≤ i → (got f p ≡ walked (all t) (many end more d n s at)) × Restored s t u
+    along_ends h = (row_done (fold t) d s n i p f (walked (all t) (many end more d n s at)) h a.owes, a.restored)
 
 -- NAMES IN A ROW
 

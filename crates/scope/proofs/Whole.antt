@@ -10,7 +10,7 @@ use Rattle.smtlib.proofs.Bools.{clash}
 use Rattle.task.specs.declared.Fault.{Fault}
 use Rattle.task.specs.declared.Fault.TheVariants.{Sound}
 use Rattle.task.specs.Ast.{FunDef, Task}
-use Rattle.task.specs.Decode.{function, section, dec_constraint, deepest}
+use Rattle.task.specs.Decode.{Res, got, refuse, function, section, dec_constraint, deepest}
 use Rattle.task.specs.Fault.{lower, each, function_fault, task_fault}
 use Rattle.task.specs.Scope.{declared_by, taken_names, everywhere, in_constraint, arity_of, functions_scope, globals_of, constraint_names, names_fault}
 use Rattle.task.specs.Task.{bound}
@@ -19,8 +19,6 @@ use Rattle.task.proofs.Judging.{sound_parts}
 use Rattle.task.proofs.Pieces.{each_covers}
 use Rattle.task.proofs.Sections.{in_whole}
 use Rattle.task.proofs.Opened.{Opened, opened_framed}
-use Rattle.task_check.specs.declared.Walked.{Walked}
-use Rattle.task_check.specs.declared.Walked.TheVariants as walked_is
 use Rattle.task_check.specs.Walk.{walked}
 use Rattle.trailer.specs.declared.Bounds.{Bounds}
 use Rattle.trailer.specs.Bounds.{Inside}
@@ -82,7 +80,7 @@ module _ (file : List ℕ) (b : Bounds) (s : Sectioned file b) (t0 t1 : List ℕ
     pub kvars_ready : Ready file t2 × Inside file b
     kvars_ready = let i = sectioned_inside file b s in let m = i.most in (record { chained = g.chained; short = omega arith }, i)
 
-    pub functions_words : length t2 ≡ length t0
+    functions_words : length t2 ≡ length t0
     functions_words = g.words ∙ d.words
 
     module _ (t3 : List ℕ) (h : KVarsDeclared file b t2 t3) where
@@ -123,9 +121,6 @@ module _ (file : List ℕ) (b : Bounds) (s : Sectioned file b) (t0 t1 : List ℕ
           let z = declared_all.2 in
           record { chained = h.chained; short = omega arith; words = omega arith; few = omega arith; room = z }
 
-      pub kvars_words : length t3 ≡ length t0
-      kvars_words = h.words ∙ functions_words
-
       globals_are : globals_in file t3 ≡ globals_of s.task
       unfolding globals_in globals_of taken_in ctors_in
       globals_are =
@@ -138,20 +133,21 @@ module _ (file : List ℕ) (b : Bounds) (s : Sectioned file b) (t0 t1 : List ℕ
       unfolding vars_in
       vars_are = ap (names_of 2 6) entries_are ∙ ranges.vars s.task
 
-      module _ (w : Walked) (t4 : List ℕ) (k : (w ≡ walked (constraint_in file t3) (dec_constraint deepest file b.constraint)) × Restored file t3 t4) where
-        judged_constraint : w ≡ walked_is.Next (constraint_names (globals_of s.task) (in_constraint s.task) s.task.constraint) (bound file 6)
+      module _ (w : Res Fault) (t4 : List ℕ) (k : (w ≡ walked (constraint_in file t3) (dec_constraint deepest file b.constraint)) × Restored file t3 t4) where
+        judged_constraint : w ≡ got (constraint_names (globals_of s.task) (in_constraint s.task) s.task.constraint) (bound file 6)
         judged_constraint =
             let u : b.constraint ≡ bound file 5 = ap (λ (x : Bounds). x.constraint) s.bounds in
             let q = in_whole (dec_constraint deepest) (each_covers.constraints deepest) file (bound file 6) (bound file 5) s.task.constraint (bound file 6) open_task.constraint in
             k.0 ∙ rw (u, q, globals_are, vars_are)
 
-        pub names_read : (j : ℕ) → w ≡ walked_is.Refused j → NamesJudged file r1 t4
-        names_read j e = let z : walked_is.Refused j ≡ walked_is.Next (constraint_names (globals_of s.task) (in_constraint s.task) s.task.constraint) (bound file 6) = sym e ∙ judged_constraint in clash (cc)
+      module _ (t4 : List ℕ) where
+        pub names_read : (j : ℕ) → (refuse j ≡ walked (constraint_in file t3) (dec_constraint deepest file b.constraint)) × Restored file t3 t4 → NamesJudged file r1 t4
+        names_read j k = let z : refuse j ≡ got (constraint_names (globals_of s.task) (in_constraint s.task) s.task.constraint) (bound file 6) = judged_constraint (refuse j) t4 k in clash (cc)
 
-        pub names_judged : (q : ℕ) (f r : Fault) → w ≡ walked_is.Next f q → r ≡ lower r1 f → NamesJudged file r t4
+        pub names_judged : (f : Fault) (q : ℕ) (r : Fault) → (got f q ≡ walked (constraint_in file t3) (dec_constraint deepest file b.constraint)) × Restored file t3 t4 → r ≡ lower r1 f → NamesJudged file r t4
         unfolding names_fault
-        names_judged q f r e m =
-            let z : walked_is.Next f q ≡ walked_is.Next (constraint_names (globals_of s.task) (in_constraint s.task) s.task.constraint) (bound file 6) = sym e ∙ judged_constraint in
+        names_judged f q r k m =
+            let z : got f q ≡ got (constraint_names (globals_of s.task) (in_constraint s.task) s.task.constraint) (bound file 6) = judged_constraint (got f q) t4 k in
             let y : f ≡ constraint_names (globals_of s.task) (in_constraint s.task) s.task.constraint = cc in
             let x : r ≡ names_fault s.task = m ∙ ap (λ (g' : Fault). lower g' f) in_bodies ∙ ap (lower (functions_scope (declared_by true s.task.datatypes) (everywhere s.task) s.task.functions)) y in
             record {

@@ -3,52 +3,43 @@ use Rattle.std.specs.Prelude.{ℕ, Bool, true, false, cond, List, [], ◌∷◌,
 use Rattle.std.proofs.Math.Option.{Option, none, some}
 use Rattle.task.specs.declared.Fault.{Fault}
 use Rattle.task.specs.declared.Fault.TheVariants.{Sound}
-use Rattle.task.specs.declared.Number.{Number}
-use Rattle.task.specs.declared.Number.TheVariants as number_is
 use Rattle.task.specs.declared.ExprNode.{ExprNode}
 use Rattle.task.specs.declared.ExprNode.TheVariants as expr_node
 use Rattle.task.specs.Ast.{Sorts, Expr, Pred, Constraint, FunBody}
 use Rattle.task.specs.Decode.{Decoder, give, refusal, ◌▹◌, number, many, counted, name, flag, dec_sort, dec_expr, dec_pred, dec_constraint, deepest}
 use Rattle.task.specs.Fault.{lower, each, sorts_number}
 use Rattle.task.specs.Scope.{known_fault, expr_scope, body_scope}
-use Rattle.task.specs.Node.{bytes_of}
 use Rattle.scope.specs.declared.ScopeParts.{ScopeParts}
 use Rattle.scope.specs.declared.ScopeParts.TheVariants as scope_parts_is
 use Rattle.scope.specs.Known.{ctors_in, vars_in, pred_in, constraint_in}
 
 -- what an expression's node leaves to be walked
 abbrev pub scope_parts : List ℕ → List ℕ → ExprNode → ScopeParts
-scope_parts s table (expr_node.Numeral lo hi p) = scope_parts_is.Row 0 p Sound
-scope_parts s table (expr_node.Boolean b p) = scope_parts_is.Row 0 p Sound
-scope_parts s table (expr_node.Real n p) = scope_parts_is.Row 0 p Sound
-scope_parts s table (expr_node.String x p) = scope_parts_is.Row 0 p Sound
-scope_parts s table (expr_node.BitVec lo hi w p) = scope_parts_is.Row 0 p Sound
-scope_parts s table (expr_node.Var x p) = scope_parts_is.Row 0 p (known_fault (vars_in s table) (bytes_of s x))
-scope_parts s table (expr_node.WKVar p) = scope_parts_is.Row 0 p Sound
-scope_parts s table (expr_node.Neg p) = scope_parts_is.Row 1 p Sound
-scope_parts s table (expr_node.Not p) = scope_parts_is.Row 1 p Sound
-scope_parts s table (expr_node.BinaryOp o p) = scope_parts_is.Row 2 p Sound
-scope_parts s table (expr_node.Atom r p) = scope_parts_is.Row 2 p Sound
-scope_parts s table (expr_node.Imp p) = scope_parts_is.Row 2 p Sound
-scope_parts s table (expr_node.Iff p) = scope_parts_is.Row 2 p Sound
-scope_parts s table (expr_node.And n p) = scope_parts_is.Row n p Sound
-scope_parts s table (expr_node.Or n p) = scope_parts_is.Row n p Sound
-scope_parts s table (expr_node.IfThenElse p) = scope_parts_is.Row 3 p Sound
-scope_parts s table (expr_node.Let x p) = scope_parts_is.Let
-scope_parts s table (expr_node.App b p) = scope_parts_is.App b p
-scope_parts s table (expr_node.ThyFunc f p) = scope_parts_is.Row 0 p Sound
-scope_parts s table (expr_node.IsCtor x p) = scope_parts_is.Row 1 p (known_fault (ctors_in s table) (bytes_of s x))
-scope_parts s table (expr_node.Quantifier q n p) = scope_parts_is.Quantifier n p
-scope_parts s table expr_node.Refused = scope_parts_is.Refused
+scope_parts s table (expr_node.Numeral lo hi) = scope_parts_is.Row 0 Sound
+scope_parts s table (expr_node.Boolean b) = scope_parts_is.Row 0 Sound
+scope_parts s table (expr_node.Real n) = scope_parts_is.Row 0 Sound
+scope_parts s table (expr_node.String x) = scope_parts_is.Row 0 Sound
+scope_parts s table (expr_node.BitVec lo hi w) = scope_parts_is.Row 0 Sound
+scope_parts s table (expr_node.Var x) = scope_parts_is.Row 0 (known_fault (vars_in s table) x.now)
+scope_parts s table expr_node.WKVar = scope_parts_is.Row 0 Sound
+scope_parts s table expr_node.Neg = scope_parts_is.Row 1 Sound
+scope_parts s table expr_node.Not = scope_parts_is.Row 1 Sound
+scope_parts s table (expr_node.BinaryOp o) = scope_parts_is.Row 2 Sound
+scope_parts s table (expr_node.Atom r) = scope_parts_is.Row 2 Sound
+scope_parts s table expr_node.Imp = scope_parts_is.Row 2 Sound
+scope_parts s table expr_node.Iff = scope_parts_is.Row 2 Sound
+scope_parts s table (expr_node.And n) = scope_parts_is.Row n Sound
+scope_parts s table (expr_node.Or n) = scope_parts_is.Row n Sound
+scope_parts s table expr_node.IfThenElse = scope_parts_is.Row 3 Sound
+scope_parts s table (expr_node.Let x) = scope_parts_is.Let
+scope_parts s table (expr_node.App b) = scope_parts_is.App b
+scope_parts s table (expr_node.ThyFunc f) = scope_parts_is.Row 0 Sound
+scope_parts s table (expr_node.IsCtor x) = scope_parts_is.Row 1 (known_fault (ctors_in s table) x.now)
+scope_parts s table (expr_node.Quantifier q n) = scope_parts_is.Quantifier n
 
 -- what stands behind a Let's code
 abbrev pub let_form : ℕ → Decoder Expr
 let_form l = name ▹ λ x. dec_expr l ▹ λ a. dec_expr l ▹ λ b. give (Expr.let_in x a b)
-
--- a number that was read
-unfoldable pub size_of : Number → Option ℕ
-size_of (number_is.Value n p) = some n
-size_of number_is.Refused = none
 
 -- what a ForAll's name is known in
 pub record Under : Type 0 where

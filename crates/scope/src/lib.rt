@@ -9,174 +9,149 @@ ghost use Rattle.smtlib.specs.Lexicon.{is_one};
 ghost use Rattle.task.specs.declared.Fault.TheVariants.{Clash};
 ghost use Rattle.task.specs.Fault.{unless, each};
 ghost use Rattle.task.specs.Scope.{known_fault, arguments_fault};
-ghost use Rattle.task.specs.Node.{bytes_of};
+ghost use Rattle.task.specs.Node.{read_of};
 ghost use Rattle.task_check.specs.Walk.{walked, applied, quantified};
 ghost use Rattle.constraint_check.specs.Around.{for_all};
 ghost use Rattle.names.specs.Table.{number_of, entries, names_of, Chained};
 ghost use Rattle.names.specs.Change.{Blank, Restored};
-ghost use Rattle.declared.specs.Arity.{size_at, arity_in};
+ghost use Rattle.declared.specs.Arity.{value_of, size_at, arity_in};
 ghost use Rattle.scope.specs.Known.{taken_in, expr_in, exprs_in, pred_in, constraint_in, constraints_in, Space};
 ghost use Rattle.scope.specs.Judged.{FunctionsJudged, Sectioned, NamesJudged};
-ghost use Rattle.scope.specs.Walk.{scope_parts, let_form, size_of, under_form, under_in, body_form, signature_form, function_form, body_in, perhaps_in};
+ghost use Rattle.scope.specs.Walk.{scope_parts, let_form, under_form, under_in, body_form, signature_form, function_form, body_in, perhaps_in};
 
-use names::{Found, Kind};
-use task::{ConstraintNode, ExprNode, Fault, FlagRead, Number, PredNode, Span, SpanRead};
-use task_check::Walked;
+use names::Kind;
+use task::{ConstraintNode, ExprNode, Fault, PredNode, Read, Refusal};
 use trailer::Bounds;
 
 // What an expression's node leaves to be walked, with the fault of the node itself: expressions in a row, or the parts of an application, a
 // Let or a quantifier.
 #[derive(Clone, Copy)]
 pub enum ScopeParts {
-    Row(u64, usize, Fault),
-    App(bool, usize),
+    Row(u64, Fault),
+    App(bool),
     Let,
-    Quantifier(u64, usize),
-    Refused,
+    Quantifier(u64),
 }
 
 // The fault of a ForAll's name.
-fn clash_fault(s: &[u8], x: Span, table: &[u16]) -> Fault
+#[tactic(auto, using(crate::proofs::Constraints::name_clashes, crate::proofs::Constraints::name_free))]
+fn clash_fault(s: &[u8], x: &[u8], table: &[u16]) -> Fault
     requires { Chained s.now table.now }
-    ensures { result ≡ unless (not (is_one (bytes_of s.now x) (taken_in s.now table.now))) Clash }
+    ensures { result ≡ unless (not (is_one x.now (taken_in s.now table.now))) Clash }
 {
-    let name = task::bytes_of(s, x);
-    let found = names::find(s, table, name, Kind::KVar, Kind::Function);
-    match found {
-        Found::Entry(_) => Fault::Clash,
-        Found::Nothing => Fault::Sound,
+    if names::find(s, table, x, Kind::KVar, Kind::Function).is_some() {
+        return Fault::Clash;
     }
+    Fault::Sound
 }
 
 // The fault of a name: none of the kinds in a range has it.
-fn known_fault(s: &[u8], x: Span, lowest: Kind, highest: Kind, table: &[u16]) -> Fault
+#[tactic(auto, using(crate::proofs::Exprs::name_known, crate::proofs::Exprs::name_unknown))]
+fn known_fault(s: &[u8], x: &[u8], lowest: Kind, highest: Kind, table: &[u16]) -> Fault
     requires { Chained s.now table.now }
-    ensures { result ≡ known_fault (names_of (number_of lowest) (number_of highest) (entries s.now table.now)) (bytes_of s.now x) }
+    ensures { result ≡ known_fault (names_of (number_of lowest) (number_of highest) (entries s.now table.now)) x.now }
 {
-    let name = task::bytes_of(s, x);
-    let found = names::find(s, table, name, lowest, highest);
-    match found {
-        Found::Entry(_) => Fault::Sound,
-        Found::Nothing => Fault::Unknown,
+    if names::find(s, table, x, lowest, highest).is_some() {
+        return Fault::Sound;
     }
+    Fault::Unknown
 }
 
 // What an expression's node leaves to be walked.
+#[tactic(auto, unfolding(crate::specs::Known::ctors_in, crate::specs::Known::vars_in))]
 fn scope_parts(s: &[u8], node: ExprNode, table: &[u16]) -> ScopeParts
     requires { Chained s.now table.now }
-    ensures { result ≡ scope_parts s.now table.now node }
+    ensures { result ≡ scope_parts s.now table.now node.entry }
 {
     match node {
-        ExprNode::Numeral(_, _, p) => ScopeParts::Row(0, p, Fault::Sound),
-        ExprNode::Boolean(_, p) => ScopeParts::Row(0, p, Fault::Sound),
-        ExprNode::Real(_, p) => ScopeParts::Row(0, p, Fault::Sound),
-        ExprNode::String(_, p) => ScopeParts::Row(0, p, Fault::Sound),
-        ExprNode::BitVec(_, _, _, p) => ScopeParts::Row(0, p, Fault::Sound),
-        ExprNode::Var(x, p) => ScopeParts::Row(
+        ExprNode::Numeral(_, _) => ScopeParts::Row(0, Fault::Sound),
+        ExprNode::Boolean(_) => ScopeParts::Row(0, Fault::Sound),
+        ExprNode::Real(_) => ScopeParts::Row(0, Fault::Sound),
+        ExprNode::String(_) => ScopeParts::Row(0, Fault::Sound),
+        ExprNode::BitVec(_, _, _) => ScopeParts::Row(0, Fault::Sound),
+        ExprNode::Var(x) => ScopeParts::Row(
             0,
-            p,
             known_fault(s, x, Kind::Constructor, Kind::Bound, table),
         ),
-        ExprNode::WKVar(p) => ScopeParts::Row(0, p, Fault::Sound),
-        ExprNode::Neg(p) => ScopeParts::Row(1, p, Fault::Sound),
-        ExprNode::Not(p) => ScopeParts::Row(1, p, Fault::Sound),
-        ExprNode::BinaryOp(_, p) => ScopeParts::Row(2, p, Fault::Sound),
-        ExprNode::Atom(_, p) => ScopeParts::Row(2, p, Fault::Sound),
-        ExprNode::Imp(p) => ScopeParts::Row(2, p, Fault::Sound),
-        ExprNode::Iff(p) => ScopeParts::Row(2, p, Fault::Sound),
-        ExprNode::And(n, p) => ScopeParts::Row(n, p, Fault::Sound),
-        ExprNode::Or(n, p) => ScopeParts::Row(n, p, Fault::Sound),
-        ExprNode::IfThenElse(p) => ScopeParts::Row(3, p, Fault::Sound),
-        ExprNode::Let(_, _) => ScopeParts::Let,
-        ExprNode::App(has, p) => ScopeParts::App(has, p),
-        ExprNode::ThyFunc(_, p) => ScopeParts::Row(0, p, Fault::Sound),
-        ExprNode::IsCtor(x, p) => ScopeParts::Row(
+        ExprNode::WKVar => ScopeParts::Row(0, Fault::Sound),
+        ExprNode::Neg => ScopeParts::Row(1, Fault::Sound),
+        ExprNode::Not => ScopeParts::Row(1, Fault::Sound),
+        ExprNode::BinaryOp(_) => ScopeParts::Row(2, Fault::Sound),
+        ExprNode::Atom(_) => ScopeParts::Row(2, Fault::Sound),
+        ExprNode::Imp => ScopeParts::Row(2, Fault::Sound),
+        ExprNode::Iff => ScopeParts::Row(2, Fault::Sound),
+        ExprNode::And(n) => ScopeParts::Row(n, Fault::Sound),
+        ExprNode::Or(n) => ScopeParts::Row(n, Fault::Sound),
+        ExprNode::IfThenElse => ScopeParts::Row(3, Fault::Sound),
+        ExprNode::Let(_) => ScopeParts::Let,
+        ExprNode::App(has) => ScopeParts::App(has),
+        ExprNode::ThyFunc(_) => ScopeParts::Row(0, Fault::Sound),
+        ExprNode::IsCtor(x) => ScopeParts::Row(
             1,
-            p,
             known_fault(s, x, Kind::Constructor, Kind::Constructor, table),
         ),
-        ExprNode::Quantifier(_, n, p) => ScopeParts::Quantifier(n, p),
-        ExprNode::Refused => ScopeParts::Refused,
+        ExprNode::Quantifier(_, n) => ScopeParts::Quantifier(n),
     }
 }
 
 // The expression at a position: where it ends, and the fault of its names.
+#[tactic(auto, using(crate::proofs::Exprs::expr_none, crate::proofs::Exprs::expr_refused, crate::proofs::Exprs::row_space_on, crate::proofs::Exprs::app_space_on, crate::proofs::Exprs::quantifier_space_on, crate::proofs::Exprs::let_space_on))]
 #[cycle(exprs)]
-pub fn scope_expr(s: &[u8], at: usize, levels: usize, table: &mut [u16]) -> Walked
+pub fn scope_expr(s: &[u8], at: usize, levels: usize, table: &mut [u16]) -> Read<Fault>
     requires { Space s.now table.old at }
-    ensures { (result ≡ walked (expr_in s.now table.old) (dec_expr levels s.now at)) × Restored s.now table.old table.new }
+    ensures { (read_of result ≡ walked (expr_in s.now table.old) (dec_expr levels s.now at)) × Restored s.now table.old table.new }
 {
     if levels == 0 {
-        return Walked::Refused(3);
+        return Err(Refusal::Level);
     }
     let below = levels - 1;
-    let node = task::read_expr_node(s, at);
-    let parts = scope_parts(s, node, table);
-    match parts {
-        ScopeParts::Row(n, p, f) => task_check::after(f, scope_exprs(s, p, n, below, table)),
-        ScopeParts::App(has, p) => scope_app(s, p, has, below, table),
+    let (node, p) = task::read_expr_node(s, at)?;
+    match scope_parts(s, node, table) {
+        ScopeParts::Row(n, f) => task_check::after(f, scope_exprs(s, p, n, below, table)),
+        ScopeParts::App(has) => scope_app(s, p, has, below, table),
         ScopeParts::Let => scope_let(s, at + 1, below, table),
-        ScopeParts::Quantifier(n, p) => scope_quantifier(s, p, n, below, table),
-        ScopeParts::Refused => Walked::Refused(2),
+        ScopeParts::Quantifier(n) => scope_quantifier(s, p, n, below, table),
     }
 }
 
 // n expressions in a row.
 #[cycle(exprs)]
-fn scope_exprs(s: &[u8], at: usize, n: u64, levels: usize, table: &mut [u16]) -> Walked
+fn scope_exprs(s: &[u8], at: usize, n: u64, levels: usize, table: &mut [u16]) -> Read<Fault>
     requires { Space s.now table.old at }
-    ensures { (result ≡ walked (exprs_in s.now table.old) (many Exprs.none Exprs.more (dec_expr levels) n s.now at)) × Restored s.now table.old table.new }
+    ensures { (read_of result ≡ walked (exprs_in s.now table.old) (many Exprs.none Exprs.more (dec_expr levels) n s.now at)) × Restored s.now table.old table.new }
 {
     let mut p = at;
-    let mut left = n;
     let mut fault = Fault::Sound;
-    while 0 < left {
-        let one = scope_expr(s, p, levels, table);
-        let Walked::Next(f, q) = one else {
-            return one;
-        };
+    for _ in 0..n {
+        let (f, q) = scope_expr(s, p, levels, table)?;
         p = q;
-        fault = task_check::lower(fault, f);
-        left -= 1;
+        fault = fault.lower(f);
     }
-    Walked::Next(fault, p)
+    Ok((fault, p))
 }
 
 // An application behind its flag: the output sort, the head, and counted arguments.
+#[tactic(auto, using(crate::proofs::Exprs::app_stops, crate::proofs::Exprs::app_head_space, crate::proofs::Exprs::app_head_stops, crate::proofs::Exprs::app_count_stops, crate::proofs::Exprs::app_rest_space))]
 #[cycle(exprs)]
-fn scope_app(s: &[u8], at: usize, has: bool, levels: usize, table: &mut [u16]) -> Walked
+fn scope_app(s: &[u8], at: usize, has: bool, levels: usize, table: &mut [u16]) -> Read<Fault>
     requires { Space s.now table.old at }
-    ensures { (result ≡ walked (expr_in s.now table.old) (applied levels has s.now at)) × Restored s.now table.old table.new }
+    ensures { (read_of result ≡ walked (expr_in s.now table.old) (applied levels has s.now at)) × Restored s.now table.old table.new }
 {
-    let output = task_check::check_given(s, has, at, levels);
-    let Walked::Next(_, p) = output else {
-        return output;
-    };
-    let head = scope_expr(s, p, levels, table);
-    let Walked::Next(f, q) = head else {
-        return head;
-    };
-    let count = task::number_at(s, q, 2);
-    let Number::Value(n, r) = count else {
-        return Walked::Refused(2);
-    };
+    let (_, p) = task_check::check_given(s, has, at, levels)?;
+    let (f, q) = scope_expr(s, p, levels, table)?;
+    let (n, r) = task::number_at(s, q, 2)?;
     task_check::after(f, scope_exprs(s, r, n, levels, table))
 }
 
 // A Let behind its code: its name is known in its second operand.
+#[tactic(auto, using(crate::proofs::Exprs::let_unnamed, crate::proofs::Exprs::let_first_space, crate::proofs::Exprs::let_first_stops))]
 #[cycle(exprs)]
-fn scope_let(s: &[u8], at: usize, levels: usize, table: &mut [u16]) -> Walked
+fn scope_let(s: &[u8], at: usize, levels: usize, table: &mut [u16]) -> Read<Fault>
     requires { Space s.now table.old at × (3 * length (entries s.now table.old) < at) }
-    ensures { (result ≡ walked (expr_in s.now table.old) (let_form levels s.now at)) × Restored s.now table.old table.new }
+    ensures { (read_of result ≡ walked (expr_in s.now table.old) (let_form levels s.now at)) × Restored s.now table.old table.new }
 {
-    let name = task::read_name(s, at);
-    let SpanRead::At(_, p) = name else {
-        return Walked::Refused(2);
-    };
-    let value = scope_expr(s, p, levels, table);
-    let Walked::Next(f, q) = value else {
-        return value;
-    };
+    let (_, p) = task::read_name(s, at)?;
+    let (f, q) = scope_expr(s, p, levels, table)?;
     names::push(s, table, at, Kind::Bound);
     let body = scope_expr(s, q, levels, table);
     names::pop(s, table);
@@ -184,15 +159,13 @@ fn scope_let(s: &[u8], at: usize, levels: usize, table: &mut [u16]) -> Walked
 }
 
 // A quantifier behind its count: its names are known in its body.
+#[tactic(auto, using(crate::proofs::Exprs::quantifier_stops))]
 #[cycle(exprs)]
-fn scope_quantifier(s: &[u8], at: usize, n: u64, levels: usize, table: &mut [u16]) -> Walked
+fn scope_quantifier(s: &[u8], at: usize, n: u64, levels: usize, table: &mut [u16]) -> Read<Fault>
     requires { Space s.now table.old at }
-    ensures { (result ≡ walked (expr_in s.now table.old) (quantified levels n s.now at)) × Restored s.now table.old table.new }
+    ensures { (read_of result ≡ walked (expr_in s.now table.old) (quantified levels n s.now at)) × Restored s.now table.old table.new }
 {
-    let binders = task_check::check_binders(s, at, n, levels);
-    let Walked::Next(_, p) = binders else {
-        return binders;
-    };
+    let (_, p) = task_check::check_binders(s, at, n, levels)?;
     declared::push_binders(s, at, n, levels, Kind::Bound, table);
     let body = scope_expr(s, p, levels, table);
     names::pop_last(s, table, n);
@@ -200,27 +173,24 @@ fn scope_quantifier(s: &[u8], at: usize, n: u64, levels: usize, table: &mut [u16
 }
 
 // How many sorts the KVar has whose name stands at a place: the number behind the name.
-fn sorts_at(s: &[u8], at: usize) -> Number
-    ensures { size_at s.now at ≡ size_of result }
+#[tactic(auto, using(crate::proofs::Preds::size_unnamed, crate::proofs::Preds::size_read))]
+fn sorts_at(s: &[u8], at: usize) -> Read<u64>
+    ensures { size_at s.now at ≡ value_of (read_of result) }
 {
-    let name = task::read_name(s, at);
-    let SpanRead::At(_, p) = name else {
-        return Number::Refused;
-    };
+    let (_, p) = task::read_name(s, at)?;
     task::number_at(s, p, 2)
 }
 
 // The fault of a KVar predicate with n arguments: its KVar is not declared, or has another number of sorts.
-fn arguments_fault(s: &[u8], x: Span, n: u64, table: &[u16]) -> Fault
+#[tactic(auto, using(crate::proofs::Preds::no_kvar, crate::proofs::Preds::kvar_inside, crate::proofs::Preds::kvar_unsized, crate::proofs::Preds::kvar_counted, crate::proofs::Preds::kvar_miscounted))]
+fn arguments_fault(s: &[u8], x: &[u8], n: u64, table: &[u16]) -> Fault
     requires { Chained s.now table.now }
-    ensures { result ≡ arguments_fault (arity_in s.now table.now (bytes_of s.now x)) n }
+    ensures { result ≡ arguments_fault (arity_in s.now table.now x.now) n }
 {
-    let found = names::find(s, table, task::bytes_of(s, x), Kind::KVar, Kind::KVar);
-    let Found::Entry(k) = found else {
+    let Some(k) = names::find(s, table, x, Kind::KVar, Kind::KVar) else {
         return Fault::Unknown;
     };
-    let sorts = sorts_at(s, names::offset_of(table, k));
-    let Number::Value(m, _) = sorts else {
+    let Ok((m, _)) = sorts_at(s, names::offset_of(table, k)) else {
         return Fault::Unknown;
     };
     if n == m {
@@ -230,103 +200,85 @@ fn arguments_fault(s: &[u8], x: Span, n: u64, table: &[u16]) -> Fault
 }
 
 // The predicate at a position: where it ends, and the fault of its names.
-pub fn scope_pred(s: &[u8], at: usize, levels: usize, table: &mut [u16]) -> Walked
+#[tactic(auto, using(crate::proofs::Preds::pred_none, crate::proofs::Preds::pred_refused, crate::proofs::Preds::pred_space, crate::proofs::Preds::pred_expr))]
+pub fn scope_pred(s: &[u8], at: usize, levels: usize, table: &mut [u16]) -> Read<Fault>
     requires { Space s.now table.old at }
-    ensures { (result ≡ walked (pred_in s.now table.old) (dec_pred levels s.now at)) × Restored s.now table.old table.new }
+    ensures { (read_of result ≡ walked (pred_in s.now table.old) (dec_pred levels s.now at)) × Restored s.now table.old table.new }
 {
     if levels == 0 {
-        return Walked::Refused(3);
+        return Err(Refusal::Level);
     }
     let below = levels - 1;
-    let node = task::read_pred_node(s, at);
+    let (node, p) = task::read_pred_node(s, at)?;
     match node {
-        PredNode::KVar(x, n, p) => {
+        PredNode::KVar(x, n) => {
             let fault = arguments_fault(s, x, n, table);
             task_check::after(fault, scope_exprs(s, p, n, below, table))
         }
-        PredNode::Expr(p) => task_check::after(Fault::Sound, scope_expr(s, p, below, table)),
-        PredNode::Refused => Walked::Refused(2),
+        PredNode::Expr => scope_expr(s, p, below, table),
     }
 }
 
 // n predicates in a row.
-pub fn scope_preds(s: &[u8], at: usize, n: u64, levels: usize, table: &mut [u16]) -> Walked
+pub fn scope_preds(s: &[u8], at: usize, n: u64, levels: usize, table: &mut [u16]) -> Read<Fault>
     requires { Space s.now table.old at }
-    ensures { (result ≡ walked (each (pred_in s.now table.old)) (many [] ◌∷◌ (dec_pred levels) n s.now at)) × Restored s.now table.old table.new }
+    ensures { (read_of result ≡ walked (each (pred_in s.now table.old)) (many [] ◌∷◌ (dec_pred levels) n s.now at)) × Restored s.now table.old table.new }
 {
     let mut p = at;
-    let mut left = n;
     let mut fault = Fault::Sound;
-    while 0 < left {
-        let one = scope_pred(s, p, levels, table);
-        let Walked::Next(f, q) = one else {
-            return one;
-        };
+    for _ in 0..n {
+        let (f, q) = scope_pred(s, p, levels, table)?;
         p = q;
-        fault = task_check::lower(fault, f);
-        left -= 1;
+        fault = fault.lower(f);
     }
-    Walked::Next(fault, p)
+    Ok((fault, p))
 }
 
 // The constraint at a position: where it ends, and the fault of its names.
+#[tactic(auto, using(crate::proofs::Constraints::constraint_none, crate::proofs::Constraints::constraint_refused, crate::proofs::Constraints::node_space))]
 #[cycle(constraints)]
-pub fn scope_constraint(s: &[u8], at: usize, levels: usize, table: &mut [u16]) -> Walked
+pub fn scope_constraint(s: &[u8], at: usize, levels: usize, table: &mut [u16]) -> Read<Fault>
     requires { Space s.now table.old at }
-    ensures { (result ≡ walked (constraint_in s.now table.old) (dec_constraint levels s.now at)) × Restored s.now table.old table.new }
+    ensures { (read_of result ≡ walked (constraint_in s.now table.old) (dec_constraint levels s.now at)) × Restored s.now table.old table.new }
 {
     if levels == 0 {
-        return Walked::Refused(3);
+        return Err(Refusal::Level);
     }
     let below = levels - 1;
-    let node = task::read_constraint_node(s, at);
+    let (node, p) = task::read_constraint_node(s, at)?;
     match node {
-        ConstraintNode::Pred(p) => scope_pred(s, p, below, table),
-        ConstraintNode::Conj(n, p) => scope_members(s, p, n, below, table),
-        ConstraintNode::ForAll(p) => scope_for_all(s, p, below, table),
-        ConstraintNode::Refused => Walked::Refused(2),
+        ConstraintNode::Pred => scope_pred(s, p, below, table),
+        ConstraintNode::Conj(n) => scope_members(s, p, n, below, table),
+        ConstraintNode::ForAll => scope_for_all(s, p, below, table),
     }
 }
 
 // n constraints in a row.
 #[cycle(constraints)]
-fn scope_members(s: &[u8], at: usize, n: u64, levels: usize, table: &mut [u16]) -> Walked
+fn scope_members(s: &[u8], at: usize, n: u64, levels: usize, table: &mut [u16]) -> Read<Fault>
     requires { Space s.now table.old at }
-    ensures { (result ≡ walked (constraints_in s.now table.old) (many Constraints.none Constraints.more (dec_constraint levels) n s.now at)) × Restored s.now table.old table.new }
+    ensures { (read_of result ≡ walked (constraints_in s.now table.old) (many Constraints.none Constraints.more (dec_constraint levels) n s.now at)) × Restored s.now table.old table.new }
 {
     let mut p = at;
-    let mut left = n;
     let mut fault = Fault::Sound;
-    while 0 < left {
-        let one = scope_constraint(s, p, levels, table);
-        let Walked::Next(f, q) = one else {
-            return one;
-        };
+    for _ in 0..n {
+        let (f, q) = scope_constraint(s, p, levels, table)?;
         p = q;
-        fault = task_check::lower(fault, f);
-        left -= 1;
+        fault = fault.lower(f);
     }
-    Walked::Next(fault, p)
+    Ok((fault, p))
 }
 
 // A ForAll behind its code: its name is known in its predicates and its body.
+#[tactic(auto, using(crate::proofs::Constraints::for_all_unnamed, crate::proofs::Constraints::for_all_unsorted, crate::proofs::Constraints::for_all_uncounted))]
 #[cycle(constraints)]
-fn scope_for_all(s: &[u8], at: usize, levels: usize, table: &mut [u16]) -> Walked
+fn scope_for_all(s: &[u8], at: usize, levels: usize, table: &mut [u16]) -> Read<Fault>
     requires { Space s.now table.old at × (3 * length (entries s.now table.old) < at) }
-    ensures { (result ≡ walked (constraint_in s.now table.old) (for_all levels s.now at)) × Restored s.now table.old table.new }
+    ensures { (read_of result ≡ walked (constraint_in s.now table.old) (for_all levels s.now at)) × Restored s.now table.old table.new }
 {
-    let name = task::read_name(s, at);
-    let SpanRead::At(x, p) = name else {
-        return Walked::Refused(2);
-    };
-    let sort = task_check::check_sort(s, p, levels, false);
-    let Walked::Next(_, q) = sort else {
-        return sort;
-    };
-    let count = task::number_at(s, q, 2);
-    let Number::Value(n, r) = count else {
-        return Walked::Refused(2);
-    };
+    let (x, p) = task::read_name(s, at)?;
+    let (_, q) = task_check::check_sort(s, p, levels, false)?;
+    let (n, r) = task::number_at(s, q, 2)?;
     let clash = clash_fault(s, x, table);
     names::push(s, table, at, Kind::Bound);
     let under = scope_under(s, r, n, levels, table);
@@ -335,34 +287,27 @@ fn scope_for_all(s: &[u8], at: usize, levels: usize, table: &mut [u16]) -> Walke
 }
 
 // A ForAll behind the number of its predicates: these, and the body.
+#[tactic(auto, using(crate::proofs::Constraints::under_stops, crate::proofs::Constraints::under_space))]
 #[cycle(constraints)]
-fn scope_under(s: &[u8], at: usize, n: u64, levels: usize, table: &mut [u16]) -> Walked
+fn scope_under(s: &[u8], at: usize, n: u64, levels: usize, table: &mut [u16]) -> Read<Fault>
     requires { Space s.now table.old at }
-    ensures { (result ≡ walked (under_in s.now table.old) (under_form levels n s.now at)) × Restored s.now table.old table.new }
+    ensures { (read_of result ≡ walked (under_in s.now table.old) (under_form levels n s.now at)) × Restored s.now table.old table.new }
 {
-    let preds = scope_preds(s, at, n, levels, table);
-    let Walked::Next(f, p) = preds else {
-        return preds;
-    };
+    let (f, p) = scope_preds(s, at, n, levels, table)?;
     task_check::after(f, scope_constraint(s, p, levels, table))
 }
 
 // A function's body, if it has as many argument names as there are inputs: its arguments are known in it.
-fn scope_body(s: &[u8], at: usize, inputs: u64, table: &mut [u16]) -> Walked
+#[tactic(auto, using(crate::proofs::Functions::body_uncounted, crate::proofs::Functions::body_unmatched, crate::proofs::Functions::body_args_stop))]
+fn scope_body(s: &[u8], at: usize, inputs: u64, table: &mut [u16]) -> Read<Fault>
     requires { Space s.now table.old at × (3 * length (entries s.now table.old) + inputs ≤ at) }
-    ensures { (result ≡ walked (body_in s.now table.old) (body_form inputs s.now at)) × Restored s.now table.old table.new }
+    ensures { (read_of result ≡ walked (body_in s.now table.old) (body_form inputs s.now at)) × Restored s.now table.old table.new }
 {
-    let count = task::number_at(s, at, 2);
-    let Number::Value(n, p) = count else {
-        return Walked::Refused(2);
-    };
+    let (n, p) = task::number_at(s, at, 2)?;
     if n != inputs {
-        return Walked::Refused(6);
+        return Err(Refusal::Arity);
     }
-    let names = item_check::check_names(s, p, n);
-    let Walked::Next(_, q) = names else {
-        return names;
-    };
+    let (_, q) = item_check::check_names(s, p, n)?;
     declared::push_names(s, p, n, Kind::Bound, table);
     let body = scope_expr(s, q, 256, table);
     names::pop_last(s, table, n);
@@ -370,49 +315,34 @@ fn scope_body(s: &[u8], at: usize, inputs: u64, table: &mut [u16]) -> Walked
 }
 
 // A function behind its number of parameters.
-fn scope_signature(s: &[u8], at: usize, table: &mut [u16]) -> Walked
+#[tactic(auto, using(crate::proofs::Functions::signature_uncounted, crate::proofs::Functions::signature_inputs_stop, crate::proofs::Functions::signature_output_stop, crate::proofs::Functions::signature_unflagged, crate::proofs::Functions::signature_none, crate::proofs::Functions::signature_space))]
+fn scope_signature(s: &[u8], at: usize, table: &mut [u16]) -> Read<Fault>
     requires { Space s.now table.old at }
-    ensures { (result ≡ walked (perhaps_in s.now table.old) (signature_form s.now at)) × Restored s.now table.old table.new }
+    ensures { (read_of result ≡ walked (perhaps_in s.now table.old) (signature_form s.now at)) × Restored s.now table.old table.new }
 {
-    let count = task::number_at(s, at, 2);
-    let Number::Value(n, p) = count else {
-        return Walked::Refused(2);
-    };
-    let inputs = task_check::check_sorts(s, p, n, 256);
-    let Walked::Next(_, q) = inputs else {
-        return inputs;
-    };
-    let output = task_check::check_sort(s, q, 256, false);
-    let Walked::Next(_, r) = output else {
-        return output;
-    };
-    let flag = task::read_flag(s, r);
-    let FlagRead::Flag(has, t) = flag else {
-        return Walked::Refused(2);
-    };
+    let (n, p) = task::number_at(s, at, 2)?;
+    let (_, q) = task_check::check_sorts(s, p, n, 256)?;
+    let (_, r) = task_check::check_sort(s, q, 256, false)?;
+    let (has, t) = task::read_coded(s, r)?;
     if has {
         return scope_body(s, t, n, table);
     }
-    Walked::Next(Fault::Sound, t)
+    Ok((Fault::Sound, t))
 }
 
 // A function: where it ends, and the fault of the names in its body.
-fn scope_function(s: &[u8], at: usize, table: &mut [u16]) -> Walked
+#[tactic(auto, using(crate::proofs::Functions::function_unnamed, crate::proofs::Functions::function_unparameterized, crate::proofs::Functions::function_space, crate::proofs::Functions::function_walks))]
+fn scope_function(s: &[u8], at: usize, table: &mut [u16]) -> Read<Fault>
     requires { Space s.now table.old at }
-    ensures { (result ≡ walked (perhaps_in s.now table.old) (function_form s.now at)) × Restored s.now table.old table.new }
+    ensures { (read_of result ≡ walked (perhaps_in s.now table.old) (function_form s.now at)) × Restored s.now table.old table.new }
 {
-    let name = task::read_name(s, at);
-    let SpanRead::At(_, p) = name else {
-        return Walked::Refused(2);
-    };
-    let params = task::number_at(s, p, 2);
-    let Number::Value(_, q) = params else {
-        return Walked::Refused(2);
-    };
+    let (_, p) = task::read_name(s, at)?;
+    let (_, q) = task::number_at(s, p, 2)?;
     scope_signature(s, q, table)
 }
 
 // The functions from a position to an end: the fault of the names in their bodies. Each function is known behind its own body.
+#[tactic(auto, using(crate::proofs::Sections::judging_start, crate::proofs::Sections::judging_ends))]
 fn scope_functions(file: &[u8], at: usize, end: usize, table: &mut [u16]) -> Fault
     requires { Space file.now table.old at × (end ≤ length file.now) }
     ensures { FunctionsJudged file.now at end table.old result table.new }
@@ -420,12 +350,11 @@ fn scope_functions(file: &[u8], at: usize, end: usize, table: &mut [u16]) -> Fau
     let mut p = at;
     let mut fault = Fault::Sound;
     while p < end {
-        let one = scope_function(file, p, table);
-        let Walked::Next(f, q) = one else {
+        let Ok((f, q)) = scope_function(file, p, table) else {
             return fault;
         };
         names::push(file, table, p, Kind::Function);
-        fault = task_check::lower(fault, f);
+        fault = fault.lower(f);
         p = q;
     }
     fault
@@ -440,10 +369,9 @@ pub fn judge_names(file: &[u8], b: Bounds, table: &mut [u16]) -> Fault
     declared::declare(file, b, table);
     let bodies = scope_functions(file, b.functions, b.kvars, table);
     declared::declare_kvars(file, b, table);
-    let walked = scope_constraint(file, b.constraint, 256, table);
-    let Walked::Next(fault, _) = walked else {
+    let Ok((fault, _)) = scope_constraint(file, b.constraint, 256, table) else {
         // the constraint was read before
         return bodies;
     };
-    task_check::lower(bodies, fault)
+    bodies.lower(fault)
 }

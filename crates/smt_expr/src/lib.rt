@@ -15,18 +15,20 @@ ghost use Rattle.smt_expr.specs.Parts.{two, exprs_text, unary_text, binary_text,
 use names::Kind;
 use output::Out;
 use smt_word::Sent;
-use task::{BinOp, BinRel, ExprNode, Number, Quantifier, Span, ThyFunc};
-use task_check::Walked;
+use task::{BinOp, BinRel, ExprNode, Quantifier, ThyFunc};
 
 // Whether an expression is written with the output sort as an application's head: a declared constructor, SetEmpty or MapDefault.
+#[tactic(auto, using(crate::proofs::Heads::tells_var, crate::proofs::Heads::tells_func, crate::proofs::Heads::tells_other))]
 fn is_qualified(s: &[u8], at: usize, enc: &[u16]) -> bool
     requires { Chained s.now enc.now }
     ensures { TellsQualified (encoder_in s.now enc.now) s.now at result }
 {
-    let node = task::read_expr_node(s, at);
+    let Ok((node, _)) = task::read_expr_node(s, at) else {
+        return false;
+    };
     match node {
-        ExprNode::Var(x, _) => smt_sort::is_declared(s, enc, x, Kind::Constructor),
-        ExprNode::ThyFunc(f, _) => task_check::needs_sort(f),
+        ExprNode::Var(x) => smt_sort::is_declared(s, enc, x, Kind::Constructor),
+        ExprNode::ThyFunc(f) => task_check::needs_sort(f),
         _ => false,
     }
 }
@@ -40,7 +42,21 @@ fn write_function(func: ThyFunc, p: usize, enc: &[u16], buf: &mut [u8], out: Out
     Sent { at: p, out: sent }
 }
 
+// The word of an operation.
+fn bin_op_word(op: BinOp) -> &'static [u8]
+    ensures { result.now ≡ write_bin_op op }
+{
+    match op {
+        BinOp::Add => b"+",
+        BinOp::Sub => b"-",
+        BinOp::Mul => b"*",
+        BinOp::Div => b"div",
+        BinOp::Mod => b"mod",
+    }
+}
+
 // Sends the expression at a position.
+#[tactic(auto, using(crate::proofs::Exprs::expr_none, crate::proofs::Exprs::expr_arm, crate::proofs::Exprs::numeral_arm, crate::proofs::Exprs::boolean_arm, crate::proofs::Exprs::real_arm, crate::proofs::Exprs::string_arm, crate::proofs::Exprs::bit_vec_arm, crate::proofs::Exprs::var_arm, crate::proofs::Exprs::wk_var_arm, crate::proofs::Exprs::neg_arm, crate::proofs::Exprs::not_arm, crate::proofs::Exprs::binary_op_arm, crate::proofs::Exprs::atom_arm, crate::proofs::Exprs::imp_arm, crate::proofs::Exprs::iff_arm, crate::proofs::Exprs::and_arm, crate::proofs::Exprs::or_arm))]
 #[cycle(exprs)]
 pub fn write_expr(s: &[u8], at: usize, levels: usize, enc: &[u16], buf: &mut [u8], out: Out) -> Sent
     requires { Chained s.now enc.now }
@@ -50,38 +66,40 @@ pub fn write_expr(s: &[u8], at: usize, levels: usize, enc: &[u16], buf: &mut [u8
         return Sent { at, out };
     }
     let below = levels - 1;
-    let node = task::read_expr_node(s, at);
+    let Ok((node, p)) = task::read_expr_node(s, at) else {
+        return Sent { at, out };
+    };
     match node {
-        ExprNode::Numeral(lo, hi, p) => smt_word::write_numeral(lo, hi, p, buf, out),
-        ExprNode::Boolean(b, p) => smt_word::write_boolean(b, p, buf, out),
-        ExprNode::Real(n, p) => smt_word::write_number(n, p, buf, out),
-        ExprNode::String(x, p) => smt_word::write_string(s, x, p, buf, out),
-        ExprNode::BitVec(lo, hi, w, p) => smt_word::write_bit_vec(lo, hi, w, p, buf, out),
-        ExprNode::Var(x, p) => smt_word::write_var(s, x, p, buf, out),
-        ExprNode::WKVar(p) => Sent { at: p, out },
-        ExprNode::Neg(p) => write_unary(s, b"-", p, below, enc, buf, out),
-        ExprNode::Not(p) => write_unary(s, b"not", p, below, enc, buf, out),
-        ExprNode::BinaryOp(op, p) => write_bin_op(s, op, p, below, enc, buf, out),
-        ExprNode::Atom(rel, p) => write_atom(s, rel, p, below, enc, buf, out),
-        ExprNode::Imp(p) => write_binary(s, b"=>", p, below, enc, buf, out),
-        ExprNode::Iff(p) => write_binary(s, b"=", p, below, enc, buf, out),
-        ExprNode::And(n, p) => {
+        ExprNode::Numeral(lo, hi) => smt_word::write_numeral(lo, hi, p, buf, out),
+        ExprNode::Boolean(b) => smt_word::write_boolean(b, p, buf, out),
+        ExprNode::Real(n) => smt_word::write_number(n, p, buf, out),
+        ExprNode::String(x) => smt_word::write_string(x, p, buf, out),
+        ExprNode::BitVec(lo, hi, w) => smt_word::write_bit_vec(lo, hi, w, p, buf, out),
+        ExprNode::Var(x) => smt_word::write_var(x, p, buf, out),
+        ExprNode::WKVar => Sent { at: p, out },
+        ExprNode::Neg => write_unary(s, b"-", p, below, enc, buf, out),
+        ExprNode::Not => write_unary(s, b"not", p, below, enc, buf, out),
+        ExprNode::BinaryOp(op) => write_binary(s, bin_op_word(op), p, below, enc, buf, out),
+        ExprNode::Atom(rel) => write_atom(s, rel, p, below, enc, buf, out),
+        ExprNode::Imp => write_binary(s, b"=>", p, below, enc, buf, out),
+        ExprNode::Iff => write_binary(s, b"=", p, below, enc, buf, out),
+        ExprNode::And(n) => {
             write_nary(s, b"and", n, b"true", Sent { at: p, out }, below, enc, buf)
         }
-        ExprNode::Or(n, p) => {
+        ExprNode::Or(n) => {
             write_nary(s, b"or", n, b"false", Sent { at: p, out }, below, enc, buf)
         }
-        ExprNode::IfThenElse(p) => write_ite(s, p, below, enc, buf, out),
-        ExprNode::Let(x, p) => write_let(s, x, p, below, enc, buf, out),
-        ExprNode::App(has, p) => write_app(s, has, p, below, enc, buf, out),
-        ExprNode::ThyFunc(f, p) => write_function(f, p, enc, buf, out),
-        ExprNode::IsCtor(x, p) => write_is_ctor(s, x, p, below, enc, buf, out),
-        ExprNode::Quantifier(q, n, p) => write_quantifier(s, q, n, p, below, enc, buf, out),
-        ExprNode::Refused => Sent { at, out },
+        ExprNode::IfThenElse => write_ite(s, p, below, enc, buf, out),
+        ExprNode::Let(x) => write_let(s, x, p, below, enc, buf, out),
+        ExprNode::App(has) => write_app(s, has, p, below, enc, buf, out),
+        ExprNode::ThyFunc(f) => write_function(f, p, enc, buf, out),
+        ExprNode::IsCtor(x) => write_is_ctor(s, x, p, below, enc, buf, out),
+        ExprNode::Quantifier(q, n) => write_quantifier(s, q, n, p, below, enc, buf, out),
     }
 }
 
 // Sends n expressions, a space before each.
+#[tactic(auto, using(smt_sort::proofs::Rows::row_starts, smt_sort::proofs::Rows::row_goes, smt_sort::proofs::Rows::row_ends), unfolding(crate::specs::Parts::exprs_text))]
 #[cycle(exprs)]
 pub fn write_exprs(
     s: &[u8],
@@ -96,19 +114,18 @@ pub fn write_exprs(
     ensures { Sends (exprs_text (encoder_in s.now enc.now)) (many Exprs.none Exprs.more (dec_expr levels) n s.now at) (output buf.old out.len) (output buf.new result.out.len) result.at }
 {
     let mut p = at;
-    let mut left = n;
     let mut sent = out;
-    while 0 < left {
+    for _ in 0..n {
         let spaced = sent.byte(buf, b' ');
         let one = write_expr(s, p, levels, enc, buf, spaced);
         p = one.at;
         sent = one.out;
-        left -= 1;
     }
     Sent { at: p, out: sent }
 }
 
 // An operation of one operand.
+#[tactic(auto, using(crate::proofs::Exprs::unary_sends))]
 #[cycle(exprs)]
 fn write_unary(
     s: &[u8],
@@ -135,6 +152,7 @@ fn write_unary(
 }
 
 // An operation of two operands.
+#[tactic(auto, using(crate::proofs::Exprs::binary_sends))]
 #[cycle(exprs)]
 fn write_binary(
     s: &[u8],
@@ -163,29 +181,6 @@ fn write_binary(
     }
 }
 
-// An operation by its code.
-#[cycle(exprs)]
-fn write_bin_op(
-    s: &[u8],
-    op: BinOp,
-    at: usize,
-    levels: usize,
-    enc: &[u16],
-    buf: &mut [u8],
-    out: Out,
-) -> Sent
-    requires { Chained s.now enc.now }
-    ensures { Sends (binary_text (encoder_in s.now enc.now) (write_bin_op op)) (two levels s.now at) (output buf.old out.len) (output buf.new result.out.len) result.at }
-{
-    match op {
-        BinOp::Add => write_binary(s, b"+", at, levels, enc, buf, out),
-        BinOp::Sub => write_binary(s, b"-", at, levels, enc, buf, out),
-        BinOp::Mul => write_binary(s, b"*", at, levels, enc, buf, out),
-        BinOp::Div => write_binary(s, b"div", at, levels, enc, buf, out),
-        BinOp::Mod => write_binary(s, b"mod", at, levels, enc, buf, out),
-    }
-}
-
 // A relation by its code.
 #[cycle(exprs)]
 fn write_atom(
@@ -211,6 +206,7 @@ fn write_atom(
 }
 
 // That two operands are not equal.
+#[tactic(auto, using(crate::proofs::Exprs::ne_sends))]
 #[cycle(exprs)]
 fn write_ne(s: &[u8], at: usize, levels: usize, enc: &[u16], buf: &mut [u8], out: Out) -> Sent
     requires { Chained s.now enc.now }
@@ -265,10 +261,11 @@ fn write_nary(
 }
 
 // A choice of two.
+#[tactic(auto, using(crate::proofs::Exprs::ite_sends))]
 #[cycle(exprs)]
 fn write_ite(s: &[u8], at: usize, levels: usize, enc: &[u16], buf: &mut [u8], out: Out) -> Sent
     requires { Chained s.now enc.now }
-    ensures { Sends (write_expr (encoder_in s.now enc.now)) (expr_of s.now levels (dec_expr levels) (ExprNode.IfThenElse at)) (output buf.old out.len) (output buf.new result.out.len) result.at }
+    ensures { Sends (write_expr (encoder_in s.now enc.now)) (expr_of s.now levels (dec_expr levels) (Ok (ExprNode.IfThenElse, at))) (output buf.old out.len) (output buf.new result.out.len) result.at }
 {
     let opened = out.bytes(buf, b"(ite ");
     let test = write_expr(s, at, levels, enc, buf, opened);
@@ -287,10 +284,11 @@ fn write_ite(s: &[u8], at: usize, levels: usize, enc: &[u16], buf: &mut [u8], ou
 }
 
 // A name for an expression in another.
+#[tactic(auto, using(crate::proofs::Exprs::let_sends))]
 #[cycle(exprs)]
 fn write_let(
     s: &[u8],
-    x: Span,
+    x: &[u8],
     at: usize,
     levels: usize,
     enc: &[u16],
@@ -298,10 +296,10 @@ fn write_let(
     out: Out,
 ) -> Sent
     requires { Chained s.now enc.now }
-    ensures { Sends (write_expr (encoder_in s.now enc.now)) (expr_of s.now levels (dec_expr levels) (ExprNode.Let x at)) (output buf.old out.len) (output buf.new result.out.len) result.at }
+    ensures { Sends (write_expr (encoder_in s.now enc.now)) (expr_of s.now levels (dec_expr levels) (Ok (ExprNode.Let x.entry, at))) (output buf.old out.len) (output buf.new result.out.len) result.at }
 {
     let opened = out.bytes(buf, b"(let ((");
-    let named = opened.name(buf, s, x);
+    let named = opened.bytes(buf, x);
     let spaced = named.byte(buf, b' ');
     let value = write_expr(s, at, levels, enc, buf, spaced);
     let bound = value.out;
@@ -316,10 +314,11 @@ fn write_let(
 }
 
 // A test for a constructor.
+#[tactic(auto, using(crate::proofs::Exprs::is_ctor_sends))]
 #[cycle(exprs)]
 fn write_is_ctor(
     s: &[u8],
-    x: Span,
+    x: &[u8],
     at: usize,
     levels: usize,
     enc: &[u16],
@@ -327,10 +326,10 @@ fn write_is_ctor(
     out: Out,
 ) -> Sent
     requires { Chained s.now enc.now }
-    ensures { Sends (write_expr (encoder_in s.now enc.now)) (expr_of s.now levels (dec_expr levels) (ExprNode.IsCtor x at)) (output buf.old out.len) (output buf.new result.out.len) result.at }
+    ensures { Sends (write_expr (encoder_in s.now enc.now)) (expr_of s.now levels (dec_expr levels) (Ok (ExprNode.IsCtor x.entry, at))) (output buf.old out.len) (output buf.new result.out.len) result.at }
 {
     let opened = out.bytes(buf, b"((_ is ");
-    let named = opened.name(buf, s, x);
+    let named = opened.bytes(buf, x);
     let spaced = named.bytes(buf, b") ");
     let operand = write_expr(s, at, levels, enc, buf, spaced);
     let sent = operand.out;
@@ -342,6 +341,7 @@ fn write_is_ctor(
 }
 
 // A quantifier over n names.
+#[tactic(auto, using(crate::proofs::Exprs::quantifier_sends))]
 #[cycle(exprs)]
 fn write_quantifier(
     s: &[u8],
@@ -354,7 +354,7 @@ fn write_quantifier(
     out: Out,
 ) -> Sent
     requires { Chained s.now enc.now }
-    ensures { Sends (write_expr (encoder_in s.now enc.now)) (expr_of s.now levels (dec_expr levels) (ExprNode.Quantifier q n at)) (output buf.old out.len) (output buf.new result.out.len) result.at }
+    ensures { Sends (write_expr (encoder_in s.now enc.now)) (expr_of s.now levels (dec_expr levels) (Ok (ExprNode.Quantifier q n, at))) (output buf.old out.len) (output buf.new result.out.len) result.at }
 {
     let opened = smt_word::open_quantifier(q, buf, out);
     let spaced = opened.byte(buf, b' ');
@@ -371,6 +371,7 @@ fn write_quantifier(
 }
 
 // The head at a position; its output sort, if it has one, stands at `from`.
+#[tactic(auto, using(crate::proofs::Exprs::as_sends, crate::proofs::Exprs::unqualified_sends, crate::proofs::Exprs::unsorted_sends))]
 #[cycle(exprs)]
 fn write_application_head(
     s: &[u8],
@@ -385,26 +386,24 @@ fn write_application_head(
     requires { Chained s.now enc.now }
     ensures { HeadSends (encoder_in s.now enc.now) (given levels has s.now from) (dec_expr levels s.now at) (output buf.old out.len) (output buf.new result.out.len) result.at }
 {
-    if has {
-        if is_qualified(s, at, enc) {
-            let opened = out.bytes(buf, b"(as ");
-            let head = write_expr(s, at, levels, enc, buf, opened);
-            let named = head.out;
-            let spaced = named.byte(buf, b' ');
-            let sort = smt_sort::write_sort(s, from, levels, enc, buf, spaced);
-            let sent = sort.out;
-            let closed = sent.byte(buf, b')');
-            return Sent {
-                at: head.at,
-                out: closed,
-            };
-        }
-        return write_expr(s, at, levels, enc, buf, out);
+    if has && is_qualified(s, at, enc) {
+        let opened = out.bytes(buf, b"(as ");
+        let head = write_expr(s, at, levels, enc, buf, opened);
+        let named = head.out;
+        let spaced = named.byte(buf, b' ');
+        let sort = smt_sort::write_sort(s, from, levels, enc, buf, spaced);
+        let sent = sort.out;
+        let closed = sent.byte(buf, b')');
+        return Sent {
+            at: head.at,
+            out: closed,
+        };
     }
     write_expr(s, at, levels, enc, buf, out)
 }
 
 // An application: the number of its arguments stands behind its head.
+#[tactic(auto, using(crate::proofs::Exprs::no_sort, crate::proofs::Exprs::no_head, crate::proofs::Exprs::no_count, crate::proofs::Exprs::bare_sends, crate::proofs::Exprs::app_sends))]
 #[cycle(exprs)]
 fn write_app(
     s: &[u8],
@@ -416,18 +415,15 @@ fn write_app(
     out: Out,
 ) -> Sent
     requires { Chained s.now enc.now }
-    ensures { Sends (write_expr (encoder_in s.now enc.now)) (expr_of s.now levels (dec_expr levels) (ExprNode.App has at)) (output buf.old out.len) (output buf.new result.out.len) result.at }
+    ensures { Sends (write_expr (encoder_in s.now enc.now)) (expr_of s.now levels (dec_expr levels) (Ok (ExprNode.App has, at))) (output buf.old out.len) (output buf.new result.out.len) result.at }
 {
-    let sort = task_check::check_given(s, has, at, levels);
-    let Walked::Next(_, q) = sort else {
+    let Ok((_, q)) = task_check::check_given(s, has, at, levels) else {
         return Sent { at, out };
     };
-    let skipped = task_check::check_expr(s, q, levels, has);
-    let Walked::Next(_, p) = skipped else {
+    let Ok((_, p)) = task_check::check_expr(s, q, levels, has) else {
         return Sent { at, out };
     };
-    let count = task::number_at(s, p, 2);
-    let Number::Value(n, t) = count else {
+    let Ok((n, t)) = task::number_at(s, p, 2) else {
         return Sent { at, out };
     };
     if n == 0 {

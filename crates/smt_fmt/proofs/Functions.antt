@@ -1,28 +1,18 @@
 -- What the steps of the writer of functions add up to: the argument names and the inputs stand at two positions.
 use mathlib.Core.Path.{◌≡◌, refl, sym, ap, ◌∙◌}
-use mathlib.Core.Logic.{◌⊎◌, inl, inr, ⊎_elim}
 use mathlib.Core.Bool.{Bool, true, false}
 use mathlib.Core.List.{List, [], ◌∷◌, ◌++◌}
 use mathlib.Core.Option.{Option, none, some}
-use Prim.Native.Nat.{ℕ, zero, suc, ◌-◌, ◌<◌, ◌≤◌}
+use Prim.Native.Nat.{ℕ, zero, suc, ◌+◌, ◌-◌, ◌<◌, ◌≤◌, min}
 use native.Mathlib.Omega.{arith}
 use Rattle.smtlib.specs.Lexicon.{bytes}
 use Rattle.smtlib.specs.Compose.{paren}
 use Rattle.task.specs.declared.Fault.{Fault}
-use Rattle.task.specs.declared.FlagRead.{FlagRead}
-use Rattle.task.specs.declared.FlagRead.TheVariants as flag_is
-use Rattle.task.specs.declared.Number.{Number}
-use Rattle.task.specs.declared.Number.TheVariants as number_is
-use Rattle.task.specs.declared.Span.{Span}
-use Rattle.task.specs.declared.SpanRead.{SpanRead}
-use Rattle.task.specs.declared.SpanRead.TheVariants as span_is
 use Rattle.task.specs.Ast.{Sort, Sorts, Binder, FunBody, FunDef}
 use Rattle.task.specs.Decode.{got, refuse, bind, number, many, name, flag, dec_sort, dec_expr, body, function, deepest}
 use Rattle.task.specs.Fault.{each, name_fault, sort_fault, sorts_fault}
-use Rattle.task.specs.Node.{number_of, bytes_of, span_of, flag_of}
+use Rattle.task.specs.Node.{Bytes}
 use Rattle.task.proofs.Reading.{bind_got, got_refuse}
-use Rattle.task_check.specs.declared.Walked.{Walked}
-use Rattle.task_check.specs.declared.Walked.TheVariants as walked_is
 use Rattle.task_check.specs.Walk.{walked}
 use Rattle.task_check.proofs.Rows.{next_is, refused_is}
 use Rattle.smt_text.specs.Encoder.{Encoder, zip}
@@ -31,22 +21,21 @@ use Rattle.output.specs.Emit.{Output, emit, emits, Sends}
 use Rattle.output.proofs.Sent.{emits_append}
 use Rattle.output.proofs.Sending.{sends_refused, sends_end}
 use Rattle.smt_fmt.specs.Items.{signed, ArgSends, ZipSends, SignatureSends, DefinedSends, BodySends}
-use Rattle.smt_fmt.proofs.Decls.{named, numbered, counted_is}
 
 -- an argument: a name with the sort at another position
-module _ (enc : Encoder) (s : List ℕ) (at from : ℕ) (o : Output) (v : SpanRead) (h : name s at ≡ span_of s v) where
-  pub arg_unnamed : (o' : Output) (r r' : ℕ) → v ≡ span_is.Refused → ArgSends enc (name s at) (dec_sort deepest s from) o o' r r'
+module _ (enc : Encoder) (s : List ℕ) (at from : ℕ) (o : Output) where
+  pub arg_unnamed : (k : ℕ) (o' : Output) (r r' : ℕ) → name s at ≡ refuse k → ArgSends enc (name s at) (dec_sort deepest s from) o o' r r'
   unfolding ArgSends
-  arg_unnamed o' r r' e y p c q ey ec = got_refuse (sym ey ∙ h ∙ ap (span_of s) e)
+  arg_unnamed k o' r r' h y p c q ey ec = got_refuse (sym ey ∙ h)
 
-  pub arg_sends : (x : Span) (p : ℕ) (o1 o2 o3 o4 o5 : Output) (q : ℕ) → v ≡ span_is.At x p → o1 ≡ emit o 40 → o2 ≡ emits o1 (write_name (bytes_of s x))
+  pub arg_sends : (x : Bytes) (p : ℕ) (o1 o2 o3 o4 o5 : Output) (q : ℕ) → name s at ≡ got x.now p → o1 ≡ emit o 40 → o2 ≡ emits o1 x.now
       → o3 ≡ emit o2 32 → Sends (write_sort enc) (dec_sort deepest s from) o3 o4 q → o5 ≡ emit o4 41
       → ArgSends enc (name s at) (dec_sort deepest s from) o o5 p q
-  unfolding ArgSends Sends write_binder emits
-  arg_sends x p o1 o2 o3 o4 o5 q e e1 e2 e3 w e5 y p' c q' ey ec =
+  unfolding ArgSends Sends write_name write_binder emits
+  arg_sends x p o1 o2 o3 o4 o5 q h e1 e2 e3 w e5 y p' c q' ey ec =
       let u = w c q' ec in
-      let en : got (bytes_of s x) p ≡ got y p' = sym (h ∙ ap (span_of s) e) ∙ ey in
-      let ex : bytes_of s x ≡ y = cc in
+      let en : got x.now p ≡ got y p' = sym h ∙ ey in
+      let ex : x.now ≡ y = cc in
       (cc, u.0, rw (e5, u.1, e3, e2, e1, ex) (simp emits_append))
 
 -- names and sorts that are decoded, by the first of each
@@ -97,25 +86,29 @@ zip_none : (ys : List (List ℕ)) → zip ys Sorts.none ≡ []
 zip_none [] = refl
 zip_none (y ∷ ys) = refl
 
-no_pairs : (s : List ℕ) (m p n q : ℕ) (ys : List (List ℕ)) (p' : ℕ) (cs : Sorts) (q' : ℕ) → (m ≤ 0) ⊎ (n ≤ 0) → many [] ◌∷◌ name m s p ≡ got ys p'
+no_pairs : (s : List ℕ) (m p n q : ℕ) (ys : List (List ℕ)) (p' : ℕ) (cs : Sorts) (q' : ℕ) → min m n ≤ 0 → many [] ◌∷◌ name m s p ≡ got ys p'
     → many Sorts.none Sorts.more (dec_sort deepest) n s q ≡ got cs q' → zip ys cs ≡ []
-no_pairs s m p n q ys p' cs q' (inl h) e e' =
-    let k : m ≡ 0 = omega arith in
-    let u : got [] p ≡ got ys p' = rw k at e in
-    let z : ys ≡ [] = cc in
-    rw z
-no_pairs s m p n q ys p' cs q' (inr h) e e' =
-    let k : n ≡ 0 = omega arith in
-    let u : got Sorts.none q ≡ got cs q' = rw k at e' in
-    let z : cs ≡ Sorts.none = cc in
-    rw z (zip_none ys)
+no_pairs s zero p n q ys p' cs q' h e e' = let z : ys ≡ [] = cc in rw z
+no_pairs s (suc m) p zero q ys p' cs q' h e e' = let z : cs ≡ Sorts.none = cc in rw z (zip_none ys)
+no_pairs s (suc m) p (suc n) q ys p' cs q' h e e' = absurd (omega arith)
 
 -- two texts in parentheses
 in_parens : (o : Output) (u v : List ℕ) → emit (emits (emits (emit o 40) u) v) 41 ≡ emits o (paren (u ++ v))
 unfolding emits
 in_parens o u v = simp emits_append
 
--- The loop: of m names from p on and n sorts from q on what is left has the text that is left of the whole.
+-- a binder is sent, and then the others
+module _ (enc : Encoder) (b : Binder) (bs zs : List Binder) (z : zs ≡ b ∷ bs) (o o1 o2 : Output) where
+  one_sent : (whole : Output) → o1 ≡ emit o 32 → o2 ≡ emits o1 (write_binder enc b) → emits o (spaced (write_binders enc zs)) ≡ whole
+      → emits o2 (spaced (write_binders enc bs)) ≡ whole
+  unfolding emits
+  one_sent whole e1 e2 h = rw (e2, e1) (sym (emits_append (emit o 32) (write_binder enc b) (spaced (write_binders enc bs))) ∙ rw z at h)
+
+  all_sent : (o3 o4 : Output) → o1 ≡ emit o 40 → o2 ≡ emits o1 (write_binder enc b) → o3 ≡ emits o2 (spaced (write_binders enc bs)) → o4 ≡ emit o3 41
+      → o4 ≡ emits o (sexp_list (write_binders enc zs))
+  all_sent o3 o4 e1 e2 e3 e4 = rw (z, e4, e3, e2, e1) (in_parens o (write_binder enc b) (spaced (write_binders enc bs)))
+
+-- The loop: what is left of M names and N sorts behind i rounds, from p and q on, has the text that is left of the whole.
 module _ (enc : Encoder) (s : List ℕ) where
   record Remains (m p n q : ℕ) (o whole : Output) (p' q' : ℕ) : Type 0 where
     ys : List (List ℕ)
@@ -124,46 +117,49 @@ module _ (enc : Encoder) (s : List ℕ) where
     sorts : many Sorts.none Sorts.more (dec_sort deepest) n s q ≡ got cs q'
     same : emits o (spaced (write_binders enc (zip ys cs))) ≡ whole
 
-  pub Zipping : ℕ → ℕ → ℕ → ℕ → Output → ℕ → ℕ → ℕ → ℕ → Output → Type 0
-  Zipping M P N Q first m p n q o =
+  pub Zipping : ℕ → ℕ → ℕ → ℕ → Output → ℕ → ℕ → ℕ → Output → Type 0
+  Zipping M P N Q first i p q o =
       (ys : List (List ℕ)) (p' : ℕ) (cs : Sorts) (q' : ℕ) → many [] ◌∷◌ name M s P ≡ got ys p' → many Sorts.none Sorts.more (dec_sort deepest) N s Q ≡ got cs q'
-      → Remains m p n q o (emits first (spaced (write_binders enc (zip ys cs)))) p' q'
+      → Remains (M - i) p (N - i) q o (emits first (spaced (write_binders enc (zip ys cs)))) p' q'
 
   module _ (M P N Q : ℕ) (first : Output) where
-    pub zip_start : Zipping M P N Q first M P N Q first
+    pub zip_start : Zipping M P N Q first 0 P Q first
     unfolding Zipping
-    zip_start ys p' cs q' e e' = record { ys = ys; cs = cs; names = e; sorts = e'; same = refl }
+    zip_start ys p' cs q' e e' =
+        let k : M - 0 ≡ M = omega arith in
+        let k' : N - 0 ≡ N = omega arith in
+        record { ys = ys; cs = cs; names = rw k e; sorts = rw k' e'; same = refl }
 
-    pub zip_more : (m p n q : ℕ) (o o1 o2 : Output) (r r' : ℕ) → 0 < m → 0 < n → Zipping M P N Q first m p n q o → o1 ≡ emit o 32
-        → ArgSends enc (name s p) (dec_sort deepest s q) o1 o2 r r' → Zipping M P N Q first (m - 1) r (n - 1) r' o2
+    pub zip_more : (i p q : ℕ) (o o1 o2 : Output) (r r' : ℕ) → i < min M N → Zipping M P N Q first i p q o → o1 ≡ emit o 32
+        → ArgSends enc (name s p) (dec_sort deepest s q) o1 o2 r r' → Zipping M P N Q first (i + 1) r r' o2
     unfolding Zipping ArgSends emits
-    zip_more m p n q o o1 o2 r r' h h' z e1 w ys p' cs q' e e' =
+    zip_more i p q o o1 o2 r r' h z e1 w ys p' cs q' e e' =
         let l = z ys p' cs q' e e' in
-        let f = by_firsts s m p n q l.ys p' l.cs q' h h' l.names l.sorts in
+        let f = by_firsts s (M - i) p (N - i) q l.ys p' l.cs q' (omega arith) (omega arith) l.names l.sorts in
         let u = w f.y f.yn f.c f.cn f.first f.second in
-        let t : emits o (spaced (write_binders enc (record { name = f.y; sort = f.c } ∷ zip f.yrest f.crest))) ≡ emits first (spaced (write_binders enc (zip ys cs))) =
-        ap (λ (bs : List Binder). emits o (spaced (write_binders enc bs))) (sym f.zipped) ∙ l.same in
+        let k : M - (i + 1) ≡ M - i - 1 = omega arith in
+        let k' : N - (i + 1) ≡ N - i - 1 = omega arith in
         record {
           ys = f.yrest;
           cs = f.crest;
-          names = rw u.0 f.names;
-          sorts = rw u.1 f.sorts;
-          same = rw (u.2, e1) (sym (emits_append (emit o 32) (write_binder enc (record { name = f.y; sort = f.c })) (spaced (write_binders enc (zip f.yrest f.crest)))) ∙ t);
+          names = rw (k, u.0) f.names;
+          sorts = rw (k', u.1) f.sorts;
+          same = one_sent enc (record { name = f.y; sort = f.c }) (zip f.yrest f.crest) (zip l.ys l.cs) f.zipped o o1 o2 (emits first (spaced (write_binders enc (zip ys cs)))) e1 u.2 l.same;
         }
 
-    pub zip_end : (m p n q : ℕ) (o : Output) → (m ≤ 0) ⊎ (n ≤ 0) → Zipping M P N Q first m p n q o
+    pub zip_end : (i p q : ℕ) (o : Output) → min M N ≤ i → Zipping M P N Q first i p q o
         → ZipSends spaced enc (many [] ◌∷◌ name M s P) (many Sorts.none Sorts.more (dec_sort deepest) N s Q) first o
     unfolding Zipping ZipSends emits
-    zip_end m p n q o h z ys p' cs q' e e' =
+    zip_end i p q o h z ys p' cs q' e e' =
         let l = z ys p' cs q' e e' in
-        let t : zip l.ys l.cs ≡ [] = no_pairs s m p n q l.ys p' l.cs q' h l.names l.sorts in
+        let t : zip l.ys l.cs ≡ [] = no_pairs s (M - i) p (N - i) q l.ys p' l.cs q' (omega arith) l.names l.sorts in
         rw t at l.same
 
     -- in parentheses: none, or the first and the others
-    pub zip_none_list : (o' : Output) → (M ≡ 0) ⊎ (N ≡ 0) → o' ≡ emits first (bytes "()")
+    pub zip_none_list : (o' : Output) → min M N ≤ 0 → o' ≡ emits first (bytes "()")
         → ZipSends sexp_list enc (many [] ◌∷◌ name M s P) (many Sorts.none Sorts.more (dec_sort deepest) N s Q) first o'
     unfolding ZipSends
-    zip_none_list o' h e1 ys p' cs q' e e' = rw (no_pairs s M P N Q ys p' cs q' (⊎_elim (λ k. inl (omega arith)) (λ k. inr (omega arith)) h) e e') e1
+    zip_none_list o' h e1 ys p' cs q' e e' = rw (no_pairs s M P N Q ys p' cs q' h e e') e1
 
     pub zip_list : (o1 o2 o3 o4 : Output) (r r' : ℕ) → (M ≡ 0 → ⊥) → (N ≡ 0 → ⊥) → o1 ≡ emit first 40 → ArgSends enc (name s P) (dec_sort deepest s Q) o1 o2 r r'
         → ZipSends spaced enc (many [] ◌∷◌ name (M - 1) s r) (many Sorts.none Sorts.more (dec_sort deepest) (N - 1) s r') o2 o3 → o4 ≡ emit o3 41
@@ -173,10 +169,7 @@ module _ (enc : Encoder) (s : List ℕ) where
         let f = by_firsts s M P N Q ys p' cs q' (omega arith) (omega arith) e e' in
         let u = w f.y f.yn f.c f.cn f.first f.second in
         let v = w' f.yrest p' f.crest q' (rw u.0 f.names) (rw u.1 f.sorts) in
-        e4 ∙ ap (λ (x : Output). emit x 41) (v ∙ ap (λ (x : Output). emits x (spaced (write_binders enc (zip f.yrest f.crest))))
-        (u.2 ∙ ap (λ (x : Output). emits x (write_binder enc (record { name = f.y; sort = f.c }))) e1))
-        ∙ in_parens first (write_binder enc (record { name = f.y; sort = f.c })) (spaced (write_binders enc (zip f.yrest f.crest)))
-        ∙ ap (λ (bs : List Binder). emits first (sexp_list (write_binders enc bs))) (sym f.zipped)
+        all_sent enc (record { name = f.y; sort = f.c }) (zip f.yrest f.crest) (zip ys cs) f.zipped first o1 o2 o3 o4 e1 u.2 v e4
 
 -- the sort and the expression of a definition
 pub defined_sends : (enc : Encoder) (s : List ℕ) (from at : ℕ) (o o1 o2 o3 o4 o5 : Output) (q r : ℕ) → o1 ≡ emit o 32 → Sends (write_sort enc) (dec_sort deepest s from) o1 o2 q
@@ -189,30 +182,30 @@ defined_sends enc s from at o o1 o2 o3 o4 o5 q r e1 w e3 w' e5 b p a u eb ea =
     (v'.0, rw (e5, v'.1, e3, v.1, e1) (simp emits_append))
 
 -- a definition
-module _ (enc : Encoder) (s : List ℕ) (x : List ℕ) (n at from inner : ℕ) (o : Output) (c : Number) (h : number 2 s inner ≡ number_of c) where
-  pub body_uncounted : (o' : Output) (r : ℕ) → c ≡ number_is.Refused
+module _ (enc : Encoder) (s : List ℕ) (x : List ℕ) (n at from inner : ℕ) (o : Output) where
+  pub body_uncounted : (k : ℕ) (o' : Output) (r : ℕ) → number 2 s inner ≡ refuse k
       → BodySends enc x (many Sorts.none Sorts.more (dec_sort deepest) n s at) (dec_sort deepest s from) (body true s inner) o o' r
   unfolding BodySends
-  body_uncounted o' r e bs p b q f t eb ec ef =
-      let g : refuse 2 ≡ got f t = rw (h ∙ ap number_of e) at ef in
+  body_uncounted k o' r h bs p b q f t eb ec ef =
+      let g : refuse k ≡ got f t = rw h at ef in
       got_refuse (sym g)
 
-  module _ (m p : ℕ) (e : c ≡ number_is.Value m p) (v : Walked) (hv : v ≡ walked (each name_fault) (many [] ◌∷◌ name m s p)) where
-    pub body_unnamed : (k : ℕ) (o' : Output) (r : ℕ) → v ≡ walked_is.Refused k
+  module _ (m p : ℕ) (h : number 2 s inner ≡ got m p) where
+    pub body_unnamed : (k : ℕ) (o' : Output) (r : ℕ) → refuse k ≡ walked (each name_fault) (many [] ◌∷◌ name m s p)
         → BodySends enc x (many Sorts.none Sorts.more (dec_sort deepest) n s at) (dec_sort deepest s from) (body true s inner) o o' r
     unfolding BodySends
-    body_unnamed k o' r e' bs p' b q f t eb ec ef =
-        let g : refuse k ≡ got f t = rw (h ∙ ap number_of e, refused_is (each name_fault) (many [] ◌∷◌ name m s p) k (sym e' ∙ hv)) at ef in
+    body_unnamed k o' r h' bs p' b q f t eb ec ef =
+        let g : refuse k ≡ got f t = rw (h, refused_is (each name_fault) (many [] ◌∷◌ name m s p) k h') at ef in
         got_refuse (sym g)
 
-    pub body_sends : (q : ℕ) (f : Fault) (o1 o2 o3 o4 o5 : Output) (r : ℕ) → v ≡ walked_is.Next f q → o1 ≡ emits o (bytes "(define-fun ") → o2 ≡ emits o1 (write_name x)
-        → o3 ≡ emit o2 32 → ZipSends sexp_list enc (many [] ◌∷◌ name m s p) (many Sorts.none Sorts.more (dec_sort deepest) n s at) o3 o4
+    pub body_sends : (q : ℕ) (f : Fault) (o1 o2 o3 o4 o5 : Output) (r : ℕ) → got f q ≡ walked (each name_fault) (many [] ◌∷◌ name m s p) → o1 ≡ emits o (bytes "(define-fun ")
+        → o2 ≡ emits o1 x → o3 ≡ emit o2 32 → ZipSends sexp_list enc (many [] ◌∷◌ name m s p) (many Sorts.none Sorts.more (dec_sort deepest) n s at) o3 o4
         → DefinedSends enc (dec_sort deepest s from) (dec_expr deepest s q) o4 o5 r
         → BodySends enc x (many Sorts.none Sorts.more (dec_sort deepest) n s at) (dec_sort deepest s from) (body true s inner) o o5 r
-    unfolding BodySends ZipSends DefinedSends emits
-    body_sends q f o1 o2 o3 o4 o5 r e' e1 e2 e3 w w' bs p' b q' g t eb ec eg =
-        let y = next_is (each name_fault) (many [] ◌∷◌ name m s p) q f (sym e' ∙ hv) in
-        let u : bind (dec_expr deepest s q) (λ a z. got (some (record { args = y.value; expr = a })) z) ≡ got g t = rw (h ∙ ap number_of e, y.is) at eg in
+    unfolding BodySends ZipSends DefinedSends write_name emits
+    body_sends q f o1 o2 o3 o4 o5 r h' e1 e2 e3 w w' bs p' b q' g t eb ec eg =
+        let y = next_is (each name_fault) (many [] ◌∷◌ name m s p) q f h' in
+        let u : bind (dec_expr deepest s q) (λ a z. got (some (record { args = y.value; expr = a })) z) ≡ got g t = rw (h, y.is) at eg in
         let i = bind_got (dec_expr deepest s q) (λ a z. got (some (record { args = y.value; expr = a })) z) g t u in
         let v' = w y.value q bs p' y.is eb in
         let v'' = w' b q' i.value i.next ec i.first in
@@ -221,33 +214,33 @@ module _ (enc : Encoder) (s : List ℕ) (x : List ℕ) (n at from inner : ℕ) (
         (v''.0 ∙ en, rw (et, v''.1, v', e3, e2, e1) (simp emits_append))
 
 -- a function by its inputs, its output and its flag
-module _ (enc : Encoder) (s : List ℕ) (x : List ℕ) (n at : ℕ) (o : Output) (v : Walked) (hv : v ≡ walked sorts_fault (many Sorts.none Sorts.more (dec_sort deepest) n s at)) where
-  pub no_inputs : (k : ℕ) (o' : Output) (r : ℕ) → v ≡ walked_is.Refused k → Sends (write_fun_def enc) (signed x 0 n s at) o o' r
-  no_inputs k o' r e =
-      rw (refused_is sorts_fault (many Sorts.none Sorts.more (dec_sort deepest) n s at) k (sym e ∙ hv)) (sends_refused (write_fun_def enc) o o' r k)
+module _ (enc : Encoder) (s : List ℕ) (x : List ℕ) (n at : ℕ) (o : Output) where
+  pub no_inputs : (k : ℕ) (o' : Output) (r : ℕ) → refuse k ≡ walked sorts_fault (many Sorts.none Sorts.more (dec_sort deepest) n s at)
+      → Sends (write_fun_def enc) (signed x 0 n s at) o o' r
+  no_inputs k o' r h = rw (refused_is sorts_fault (many Sorts.none Sorts.more (dec_sort deepest) n s at) k h) (sends_refused (write_fun_def enc) o o' r k)
 
-  module _ (from : ℕ) (f : Fault) (ev : v ≡ walked_is.Next f from) (w : Walked) (hw : w ≡ walked (sort_fault false) (dec_sort deepest s from)) where
-    pub no_output : (k : ℕ) (o' : Output) (r : ℕ) → w ≡ walked_is.Refused k → Sends (write_fun_def enc) (signed x 0 n s at) o o' r
-    no_output k o' r e =
-        let y = next_is sorts_fault (many Sorts.none Sorts.more (dec_sort deepest) n s at) from f (sym ev ∙ hv) in
-        rw (y.is, refused_is (sort_fault false) (dec_sort deepest s from) k (sym e ∙ hw)) (sends_refused (write_fun_def enc) o o' r k)
+  module _ (from : ℕ) (f : Fault) (hf : got f from ≡ walked sorts_fault (many Sorts.none Sorts.more (dec_sort deepest) n s at)) where
+    pub no_output : (k : ℕ) (o' : Output) (r : ℕ) → refuse k ≡ walked (sort_fault false) (dec_sort deepest s from) → Sends (write_fun_def enc) (signed x 0 n s at) o o' r
+    no_output k o' r h =
+        let y = next_is sorts_fault (many Sorts.none Sorts.more (dec_sort deepest) n s at) from f hf in
+        rw (y.is, refused_is (sort_fault false) (dec_sort deepest s from) k h) (sends_refused (write_fun_def enc) o o' r k)
 
-    module _ (p : ℕ) (g : Fault) (ew : w ≡ walked_is.Next g p) (c : FlagRead) (hc : flag s p ≡ flag_of c) where
-      pub no_flag : (o' : Output) (r : ℕ) → c ≡ flag_is.Refused → Sends (write_fun_def enc) (signed x 0 n s at) o o' r
-      no_flag o' r e =
-          let y = next_is sorts_fault (many Sorts.none Sorts.more (dec_sort deepest) n s at) from f (sym ev ∙ hv) in
-          let z = next_is (sort_fault false) (dec_sort deepest s from) p g (sym ew ∙ hw) in
-          rw (y.is, z.is, hc ∙ ap flag_of e) (sends_refused (write_fun_def enc) o o' r 2)
+    module _ (p : ℕ) (g : Fault) (hg : got g p ≡ walked (sort_fault false) (dec_sort deepest s from)) where
+      pub no_flag : (k : ℕ) (o' : Output) (r : ℕ) → flag s p ≡ refuse k → Sends (write_fun_def enc) (signed x 0 n s at) o o' r
+      no_flag k o' r h =
+          let y = next_is sorts_fault (many Sorts.none Sorts.more (dec_sort deepest) n s at) from f hf in
+          let z = next_is (sort_fault false) (dec_sort deepest s from) p g hg in
+          rw (y.is, z.is, h) (sends_refused (write_fun_def enc) o o' r k)
 
-      module _ (has : Bool) (q : ℕ) (ec : c ≡ flag_is.Flag has q) where
+      module _ (has : Bool) (q : ℕ) (h : flag s p ≡ got has q) where
         pub defined : (o' : Output) (r : ℕ) → has ≡ true
             → BodySends enc x (many Sorts.none Sorts.more (dec_sort deepest) n s at) (dec_sort deepest s from) (body true s q) o o' r
             → Sends (write_fun_def enc) (signed x 0 n s at) o o' r
         unfolding BodySends Sends write_fun_def
         defined o' r e k =
-            let y = next_is sorts_fault (many Sorts.none Sorts.more (dec_sort deepest) n s at) from f (sym ev ∙ hv) in
-            let z = next_is (sort_fault false) (dec_sort deepest s from) p g (sym ew ∙ hw) in
-            rw (y.is, z.is, hc ∙ ap flag_of (ec ∙ ap (λ (b : Bool). flag_is.Flag b q) e)) (λ a t et.
+            let y = next_is sorts_fault (many Sorts.none Sorts.more (dec_sort deepest) n s at) from f hf in
+            let z = next_is (sort_fault false) (dec_sort deepest s from) p g hg in
+            rw (y.is, z.is, h, e) (λ a t et.
             let i = bind_got (body true s q) (λ b u. got (record { name = x; params = 0; inputs = y.value; output = z.value; body = b }) u) a t et in
             let m = k y.value from z.value p i.value i.next y.is z.is i.first in
             let ea : record { name = x; params = 0; inputs = y.value; output = z.value; body = i.value } ≡ a = let j = i.then in cc in
@@ -258,9 +251,9 @@ module _ (enc : Encoder) (s : List ℕ) (x : List ℕ) (n at : ℕ) (o : Output)
             → Sends (write_fun_def enc) (signed x 0 n s at) o o' q
         unfolding SignatureSends write_fun_def
         declared o' e k =
-            let y = next_is sorts_fault (many Sorts.none Sorts.more (dec_sort deepest) n s at) from f (sym ev ∙ hv) in
-            let z = next_is (sort_fault false) (dec_sort deepest s from) p g (sym ew ∙ hw) in
-            rw (y.is, z.is, hc ∙ ap flag_of (ec ∙ ap (λ (b : Bool). flag_is.Flag b q) e))
+            let y = next_is sorts_fault (many Sorts.none Sorts.more (dec_sort deepest) n s at) from f hf in
+            let z = next_is (sort_fault false) (dec_sort deepest s from) p g hg in
+            rw (y.is, z.is, h, e)
             (sends_end (write_fun_def enc) o o' q (record { name = x; params = 0; inputs = y.value; output = z.value; body = none }) q refl
             (k y.value from z.value p y.is z.is))
 
@@ -291,10 +284,6 @@ any_params enc s x params n at o o' r w a p e =
     (v.0, v.1 ∙ ap (emits o) (same_text enc x params i.value j.value m.value) ∙ ap (λ (d : FunDef). emits o (write_fun_body enc d d.body)) ea)
 
 -- a function by its name and numbers
-module _ (enc : Encoder) (s : List ℕ) (at : ℕ) (o : Output) (v : SpanRead) (h : name s at ≡ span_of s v) (x : Span) (p : ℕ) (e : v ≡ span_is.At x p) (c : Number) (h' : number 2 s p ≡ number_of c) (params q : ℕ) (e' : c ≡ number_is.Value params q) (d : Number) (h'' : number 2 s q ≡ number_of d) where
-  pub function_sends : (n t : ℕ) (o' : Output) (r : ℕ) → d ≡ number_is.Value n t → Sends (write_fun_def enc) (signed (bytes_of s x) 0 n s t) o o' r
-      → Sends (write_fun_def enc) (function s at) o o' r
-  function_sends n t o' r e'' w =
-      named (write_fun_def enc) s at o o' r v h _ x p e
-      (numbered (write_fun_def enc) s p o o' r c h' _ params q e'
-      (counted_is (write_fun_def enc) s q o o' r d h'' _ _ n t e'' (any_params enc s (bytes_of s x) params n t o o' r w)))
+pub function_sends : (enc : Encoder) (s : List ℕ) (at : ℕ) (o : Output) (x : Bytes) (p params q n t : ℕ) (o' : Output) (r : ℕ) → name s at ≡ got x.now p → number 2 s p ≡ got params q
+    → number 2 s q ≡ got n t → Sends (write_fun_def enc) (signed x.now 0 n s t) o o' r → Sends (write_fun_def enc) (function s at) o o' r
+function_sends enc s at o x p params q n t o' r h h' h'' w = rw (h, h', h'') (any_params enc s x.now params n t o o' r w)

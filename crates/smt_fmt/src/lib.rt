@@ -5,7 +5,6 @@
 ghost use Rattle.std.specs.Prelude.{◌≡◌, true, [], ◌∷◌};
 ghost use Rattle.task.specs.Ast.{Sorts, Exprs};
 ghost use Rattle.task.specs.Decode.{many, name, dec_sort, dec_expr, dec_pred, body, data_ctor, datatype, constant, function, kvar, deepest};
-ghost use Rattle.task.specs.Node.{bytes_of};
 ghost use Rattle.smt_text.specs.Text.{spaced, sexp_list, write_pred, write_ctor, write_parameters, write_datatype_decl, write_const_decl, write_fun_def, write_kvar_decl};
 ghost use Rattle.output.specs.Emit.{output, emits, Sends};
 ghost use Rattle.names.specs.Table.{Chained};
@@ -14,8 +13,7 @@ ghost use Rattle.smt_fmt.specs.Items.{kvar_text, ctors_text, ctor_list, body_tex
 
 use output::Out;
 use smt_word::Sent;
-use task::{FlagRead, Number, PredNode, Span, SpanRead};
-use task_check::Walked;
+use task::PredNode;
 
 // Where the writer of an argument ended: behind its name, behind its sort, and the output then.
 #[derive(Clone, Copy)]
@@ -28,7 +26,7 @@ pub struct Argument {
 // A KVar of n arguments.
 fn write_kvar(
     s: &[u8],
-    x: Span,
+    x: &[u8],
     n: u64,
     at: usize,
     levels: usize,
@@ -37,14 +35,14 @@ fn write_kvar(
     out: Out,
 ) -> Sent
     requires { Chained s.now enc.now }
-    ensures { Sends (kvar_text (encoder_in s.now enc.now) (bytes_of s.now x)) (many Exprs.none Exprs.more (dec_expr levels) n s.now at) (output buf.old out.len) (output buf.new result.out.len) result.at }
+    ensures { Sends (kvar_text (encoder_in s.now enc.now) x.now) (many Exprs.none Exprs.more (dec_expr levels) n s.now at) (output buf.old out.len) (output buf.new result.out.len) result.at }
 {
     if n == 0 {
-        let named = out.name(buf, s, x);
+        let named = out.bytes(buf, x);
         return Sent { at, out: named };
     }
     let opened = out.byte(buf, b'(');
-    let named = opened.name(buf, s, x);
+    let named = opened.bytes(buf, x);
     let args = smt_expr::write_exprs(s, at, n, levels, enc, buf, named);
     let sent = args.out;
     let closed = sent.byte(buf, b')');
@@ -55,6 +53,7 @@ fn write_kvar(
 }
 
 // Sends the predicate at a position.
+#[tactic(auto, using(crate::proofs::Decls::pred_none, crate::proofs::Decls::kvar_arm, crate::proofs::Decls::expr_arm))]
 pub fn write_pred(s: &[u8], at: usize, levels: usize, enc: &[u16], buf: &mut [u8], out: Out) -> Sent
     requires { Chained s.now enc.now }
     ensures { Sends (write_pred (encoder_in s.now enc.now)) (dec_pred levels s.now at) (output buf.old out.len) (output buf.new result.out.len) result.at }
@@ -63,29 +62,29 @@ pub fn write_pred(s: &[u8], at: usize, levels: usize, enc: &[u16], buf: &mut [u8
         return Sent { at, out };
     }
     let below = levels - 1;
-    let node = task::read_pred_node(s, at);
+    let Ok((node, p)) = task::read_pred_node(s, at) else {
+        return Sent { at, out };
+    };
     match node {
-        PredNode::KVar(x, n, p) => write_kvar(s, x, n, p, below, enc, buf, out),
-        PredNode::Expr(p) => smt_expr::write_expr(s, p, below, enc, buf, out),
-        PredNode::Refused => Sent { at, out },
+        PredNode::KVar(x, n) => write_kvar(s, x, n, p, below, enc, buf, out),
+        PredNode::Expr => smt_expr::write_expr(s, p, below, enc, buf, out),
     }
 }
 
 // A constructor with its fields.
+#[tactic(auto, using(crate::proofs::Decls::no_name, crate::proofs::Decls::ctor_uncounted, crate::proofs::Decls::ctor_sends))]
 fn write_ctor(s: &[u8], at: usize, enc: &[u16], buf: &mut [u8], out: Out) -> Sent
     requires { Chained s.now enc.now }
     ensures { Sends (write_ctor (encoder_in s.now enc.now)) (data_ctor s.now at) (output buf.old out.len) (output buf.new result.out.len) result.at }
 {
-    let read = task::read_name(s, at);
-    let SpanRead::At(x, p) = read else {
+    let Ok((x, p)) = task::read_name(s, at) else {
         return Sent { at, out };
     };
-    let count = task::number_at(s, p, 2);
-    let Number::Value(n, q) = count else {
+    let Ok((n, q)) = task::number_at(s, p, 2) else {
         return Sent { at, out };
     };
     let opened = out.byte(buf, b'(');
-    let named = opened.name(buf, s, x);
+    let named = opened.bytes(buf, x);
     let fields = smt_sort::write_binders(s, q, n, 256, enc, buf, named);
     let sent = fields.out;
     let closed = sent.byte(buf, b')');
@@ -96,19 +95,18 @@ fn write_ctor(s: &[u8], at: usize, enc: &[u16], buf: &mut [u8], out: Out) -> Sen
 }
 
 // Sends n constructors, a space before each.
+#[tactic(auto, using(smt_sort::proofs::Rows::row_starts, smt_sort::proofs::Rows::row_ends), unfolding(crate::specs::Items::ctors_text))]
 fn write_ctors(s: &[u8], at: usize, n: u64, enc: &[u16], buf: &mut [u8], out: Out) -> Sent
     requires { Chained s.now enc.now }
     ensures { Sends (ctors_text (encoder_in s.now enc.now)) (many [] ◌∷◌ data_ctor n s.now at) (output buf.old out.len) (output buf.new result.out.len) result.at }
 {
     let mut p = at;
-    let mut left = n;
     let mut sent = out;
-    while 0 < left {
+    for _ in 0..n {
         let spaced = sent.byte(buf, b' ');
         let one = write_ctor(s, p, enc, buf, spaced);
         p = one.at;
         sent = one.out;
-        left -= 1;
     }
     Sent { at: p, out: sent }
 }
@@ -123,8 +121,7 @@ fn write_datatype_ctors(s: &[u8], at: usize, n: u64, enc: &[u16], buf: &mut [u8]
     }
     let opened = out.byte(buf, b'(');
     let first = write_ctor(s, at, enc, buf, opened);
-    let made = first.out;
-    let rest = write_ctors(s, first.at, n - 1, enc, buf, made);
+    let rest = write_ctors(s, first.at, n - 1, enc, buf, first.out);
     let sent = rest.out;
     let closed = sent.byte(buf, b')');
     Sent {
@@ -134,24 +131,24 @@ fn write_datatype_ctors(s: &[u8], at: usize, n: u64, enc: &[u16], buf: &mut [u8]
 }
 
 // Sends n parameters in parentheses.
+#[tactic(auto, using(crate::proofs::Decls::no_list, crate::proofs::Decls::list_start, crate::proofs::Decls::list_more))]
 fn write_parameters(n: u64, buf: &mut [u8], out: Out) -> Out
     ensures { output buf.new result.len ≡ emits (output buf.old out.len) (sexp_list (write_parameters 0 n)) }
 {
     if n == 0 {
         return out.bytes(buf, b"()");
     }
-    let mut i: u64 = 1;
     let mut sent = out.bytes(buf, b"(T0");
-    while i < n {
+    for i in 1..n {
         let spaced = sent.byte(buf, b' ');
         let one = smt_word::write_parameter(i, 0, buf, spaced);
         sent = one.out;
-        i += 1;
     }
     sent.byte(buf, b')')
 }
 
 // Sends n constructors, behind the parameters if there are any.
+#[tactic(auto, using(crate::proofs::Decls::no_parameters, crate::proofs::Decls::parameters_sends))]
 fn write_datatype_body(
     s: &[u8],
     vars: u64,
@@ -180,31 +177,30 @@ fn write_datatype_body(
 }
 
 // Sends a datatype's opening up to its body.
-fn open_datatype(s: &[u8], x: Span, vars: u64, buf: &mut [u8], out: Out) -> Out
-    ensures { output buf.new result.len ≡ emits (output buf.old out.len) (open_text (bytes_of s.now x) vars) }
+#[tactic(auto, using(output::proofs::Sent::emits_append), unfolding(smt_text::specs::Text::write_name, output::specs::Emit::emits, crate::specs::Items::open_text))]
+fn open_datatype(s: &[u8], x: &[u8], vars: u64, buf: &mut [u8], out: Out) -> Out
+    ensures { output buf.new result.len ≡ emits (output buf.old out.len) (open_text x.now vars) }
 {
     let opened = out.bytes(buf, b"(declare-datatypes ((");
-    let named = opened.name(buf, s, x);
+    let named = opened.bytes(buf, x);
     let spaced = named.byte(buf, b' ');
     let numbered = spaced.number(buf, vars);
     numbered.bytes(buf, b")) (")
 }
 
 // Sends the declaration of the datatype at a position.
+#[tactic(auto, using(crate::proofs::Decls::no_name, crate::proofs::Decls::datatype_unnumbered, crate::proofs::Decls::datatype_uncounted, crate::proofs::Decls::datatype_sends))]
 pub fn write_datatype_decl(s: &[u8], at: usize, enc: &[u16], buf: &mut [u8], out: Out) -> Sent
     requires { Chained s.now enc.now }
     ensures { Sends (write_datatype_decl (encoder_in s.now enc.now)) (datatype s.now at) (output buf.old out.len) (output buf.new result.out.len) result.at }
 {
-    let read = task::read_name(s, at);
-    let SpanRead::At(x, p) = read else {
+    let Ok((x, p)) = task::read_name(s, at) else {
         return Sent { at, out };
     };
-    let parameters = task::number_at(s, p, 2);
-    let Number::Value(vars, q) = parameters else {
+    let Ok((vars, q)) = task::number_at(s, p, 2) else {
         return Sent { at, out };
     };
-    let count = task::number_at(s, q, 2);
-    let Number::Value(n, t) = count else {
+    let Ok((n, t)) = task::number_at(s, q, 2) else {
         return Sent { at, out };
     };
     let opened = open_datatype(s, x, vars, buf, out);
@@ -218,16 +214,16 @@ pub fn write_datatype_decl(s: &[u8], at: usize, enc: &[u16], buf: &mut [u8], out
 }
 
 // Sends the declaration of the constant at a position.
+#[tactic(auto, using(crate::proofs::Decls::no_name))]
 pub fn write_const_decl(s: &[u8], at: usize, enc: &[u16], buf: &mut [u8], out: Out) -> Sent
     requires { Chained s.now enc.now }
     ensures { Sends (write_const_decl (encoder_in s.now enc.now)) (constant s.now at) (output buf.old out.len) (output buf.new result.out.len) result.at }
 {
-    let read = task::read_name(s, at);
-    let SpanRead::At(x, p) = read else {
+    let Ok((x, p)) = task::read_name(s, at) else {
         return Sent { at, out };
     };
     let opened = out.bytes(buf, b"(declare-const ");
-    let named = opened.name(buf, s, x);
+    let named = opened.bytes(buf, x);
     let spaced = named.byte(buf, b' ');
     let sort = smt_sort::write_sort(s, p, 256, enc, buf, spaced);
     let sent = sort.out;
@@ -241,7 +237,7 @@ pub fn write_const_decl(s: &[u8], at: usize, enc: &[u16], buf: &mut [u8], out: O
 // Sends a name and n sorts, the opening of a declaration up to its own sort.
 fn open_signature(
     s: &[u8],
-    x: Span,
+    x: &[u8],
     n: u64,
     at: usize,
     enc: &[u16],
@@ -249,10 +245,10 @@ fn open_signature(
     out: Out,
 ) -> Sent
     requires { Chained s.now enc.now }
-    ensures { Sends (opening_text (encoder_in s.now enc.now) (bytes_of s.now x)) (many Sorts.none Sorts.more (dec_sort deepest) n s.now at) (output buf.old out.len) (output buf.new result.out.len) result.at }
+    ensures { Sends (opening_text (encoder_in s.now enc.now) x.now) (many Sorts.none Sorts.more (dec_sort deepest) n s.now at) (output buf.old out.len) (output buf.new result.out.len) result.at }
 {
     let opened = out.bytes(buf, b"(declare-fun ");
-    let named = opened.name(buf, s, x);
+    let named = opened.bytes(buf, x);
     let spaced = named.byte(buf, b' ');
     let sorts = smt_sort::write_sort_list(s, at, n, 256, enc, buf, spaced);
     let listed = sorts.out;
@@ -264,9 +260,10 @@ fn open_signature(
 }
 
 // Sends the declaration of a function of the n sorts at a position, whose own sort stands at `from`.
+#[tactic(auto, using(crate::proofs::Decls::signature_sends))]
 fn write_fun_signature(
     s: &[u8],
-    x: Span,
+    x: &[u8],
     n: u64,
     at: usize,
     from: usize,
@@ -275,7 +272,7 @@ fn write_fun_signature(
     out: Out,
 ) -> Out
     requires { Chained s.now enc.now }
-    ensures { SignatureSends (encoder_in s.now enc.now) (bytes_of s.now x) (many Sorts.none Sorts.more (dec_sort deepest) n s.now at) (dec_sort deepest s.now from) (output buf.old out.len) (output buf.new result.len) }
+    ensures { SignatureSends (encoder_in s.now enc.now) x.now (many Sorts.none Sorts.more (dec_sort deepest) n s.now at) (dec_sort deepest s.now from) (output buf.old out.len) (output buf.new result.len) }
 {
     let opening = open_signature(s, x, n, at, enc, buf, out);
     let opened = opening.out;
@@ -285,16 +282,16 @@ fn write_fun_signature(
 }
 
 // Sends the name at a position with the sort at another.
+#[tactic(auto, using(crate::proofs::Functions::arg_unnamed, crate::proofs::Functions::arg_sends))]
 fn write_arg(s: &[u8], at: usize, from: usize, enc: &[u16], buf: &mut [u8], out: Out) -> Argument
     requires { Chained s.now enc.now }
     ensures { ArgSends (encoder_in s.now enc.now) (name s.now at) (dec_sort deepest s.now from) (output buf.old out.len) (output buf.new result.out.len) result.at result.from }
 {
-    let read = task::read_name(s, at);
-    let SpanRead::At(x, p) = read else {
+    let Ok((x, p)) = task::read_name(s, at) else {
         return Argument { at, from, out };
     };
     let opened = out.byte(buf, b'(');
-    let named = opened.name(buf, s, x);
+    let named = opened.bytes(buf, x);
     let spaced = named.byte(buf, b' ');
     let sort = smt_sort::write_sort(s, from, 256, enc, buf, spaced);
     let sent = sort.out;
@@ -307,6 +304,7 @@ fn write_arg(s: &[u8], at: usize, from: usize, enc: &[u16], buf: &mut [u8], out:
 }
 
 // Sends m names with the n sorts that stand from another position on, a space before each, as many as there are of both.
+#[tactic(auto, using(crate::proofs::Functions::zip_start, crate::proofs::Functions::zip_more, crate::proofs::Functions::zip_end))]
 fn write_args(
     s: &[u8],
     at: usize,
@@ -322,22 +320,19 @@ fn write_args(
 {
     let mut p = at;
     let mut q = from;
-    let mut names = m;
-    let mut sorts = n;
     let mut sent = out;
-    while 0 < names && 0 < sorts {
+    for _ in 0..m.min(n) {
         let spaced = sent.byte(buf, b' ');
         let one = write_arg(s, p, q, enc, buf, spaced);
         p = one.at;
         q = one.from;
         sent = one.out;
-        names -= 1;
-        sorts -= 1;
     }
     sent
 }
 
 // The same in parentheses.
+#[tactic(auto, using(crate::proofs::Functions::zip_none_list, crate::proofs::Functions::zip_list))]
 fn write_arg_list(
     s: &[u8],
     at: usize,
@@ -351,23 +346,20 @@ fn write_arg_list(
     requires { Chained s.now enc.now }
     ensures { ZipSends sexp_list (encoder_in s.now enc.now) (many [] ◌∷◌ name m s.now at) (many Sorts.none Sorts.more (dec_sort deepest) n s.now from) (output buf.old out.len) (output buf.new result.len) }
 {
-    if m == 0 {
-        return out.bytes(buf, b"()");
-    }
-    if n == 0 {
+    if m == 0 || n == 0 {
         return out.bytes(buf, b"()");
     }
     let opened = out.byte(buf, b'(');
     let first = write_arg(s, at, from, enc, buf, opened);
-    let named = first.out;
-    let rest = write_args(s, first.at, m - 1, first.from, n - 1, enc, buf, named);
+    let rest = write_args(s, first.at, m - 1, first.from, n - 1, enc, buf, first.out);
     rest.byte(buf, b')')
 }
 
 // Sends the definition of a function of the n sorts at a position, whose own sort stands at `from`, where its body stands.
+#[tactic(auto, using(crate::proofs::Functions::body_uncounted, crate::proofs::Functions::body_unnamed, crate::proofs::Functions::body_sends))]
 fn write_definition(
     s: &[u8],
-    x: Span,
+    x: &[u8],
     n: u64,
     at: usize,
     from: usize,
@@ -376,25 +368,24 @@ fn write_definition(
     buf: &mut [u8],
 ) -> Sent
     requires { Chained s.now enc.now }
-    ensures { BodySends (encoder_in s.now enc.now) (bytes_of s.now x) (many Sorts.none Sorts.more (dec_sort deepest) n s.now at) (dec_sort deepest s.now from) (body true s.now inner.at) (output buf.old inner.out.len) (output buf.new result.out.len) result.at }
+    ensures { BodySends (encoder_in s.now enc.now) x.now (many Sorts.none Sorts.more (dec_sort deepest) n s.now at) (dec_sort deepest s.now from) (body true s.now inner.at) (output buf.old inner.out.len) (output buf.new result.out.len) result.at }
 {
     let out = inner.out;
-    let count = task::number_at(s, inner.at, 2);
-    let Number::Value(m, p) = count else {
+    let Ok((m, p)) = task::number_at(s, inner.at, 2) else {
         return inner;
     };
-    let names = item_check::check_names(s, p, m);
-    let Walked::Next(_, q) = names else {
+    let Ok((_, q)) = item_check::check_names(s, p, m) else {
         return inner;
     };
     let opened = out.bytes(buf, b"(define-fun ");
-    let named = opened.name(buf, s, x);
+    let named = opened.bytes(buf, x);
     let spaced = named.byte(buf, b' ');
     let listed = write_arg_list(s, p, m, at, n, enc, buf, spaced);
     write_defined(s, from, q, enc, buf, listed)
 }
 
 // Sends a function's own sort and its body's expression, and closes the definition.
+#[tactic(auto, using(crate::proofs::Functions::defined_sends))]
 fn write_defined(s: &[u8], from: usize, at: usize, enc: &[u16], buf: &mut [u8], out: Out) -> Sent
     requires { Chained s.now enc.now }
     ensures { DefinedSends (encoder_in s.now enc.now) (dec_sort deepest s.now from) (dec_expr deepest s.now at) (output buf.old out.len) (output buf.new result.out.len) result.at }
@@ -413,9 +404,10 @@ fn write_defined(s: &[u8], from: usize, at: usize, enc: &[u16], buf: &mut [u8], 
 }
 
 // Sends the declaration of a function with the n inputs at a position.
+#[tactic(auto, using(crate::proofs::Functions::no_inputs, crate::proofs::Functions::no_output, crate::proofs::Functions::no_flag, crate::proofs::Functions::defined, crate::proofs::Functions::declared))]
 fn write_function(
     s: &[u8],
-    x: Span,
+    x: &[u8],
     n: u64,
     at: usize,
     enc: &[u16],
@@ -423,18 +415,15 @@ fn write_function(
     out: Out,
 ) -> Sent
     requires { Chained s.now enc.now }
-    ensures { Sends (write_fun_def (encoder_in s.now enc.now)) (signed (bytes_of s.now x) 0 n s.now at) (output buf.old out.len) (output buf.new result.out.len) result.at }
+    ensures { Sends (write_fun_def (encoder_in s.now enc.now)) (signed x.now 0 n s.now at) (output buf.old out.len) (output buf.new result.out.len) result.at }
 {
-    let inputs = task_check::check_sorts(s, at, n, 256);
-    let Walked::Next(_, from) = inputs else {
+    let Ok((_, from)) = task_check::check_sorts(s, at, n, 256) else {
         return Sent { at, out };
     };
-    let output = task_check::check_sort(s, from, 256, false);
-    let Walked::Next(_, p) = output else {
+    let Ok((_, p)) = task_check::check_sort(s, from, 256, false) else {
         return Sent { at, out };
     };
-    let flag = task::read_flag(s, p);
-    let FlagRead::Flag(has, q) = flag else {
+    let Ok((has, q)) = task::read_coded::<bool>(s, p) else {
         return Sent { at, out };
     };
     if has {
@@ -445,36 +434,33 @@ fn write_function(
 }
 
 // Sends the declaration of the function at a position.
+#[tactic(auto, using(crate::proofs::Decls::no_name, crate::proofs::Decls::function_unnumbered, crate::proofs::Decls::function_uncounted, crate::proofs::Functions::function_sends))]
 pub fn write_fun_def(s: &[u8], at: usize, enc: &[u16], buf: &mut [u8], out: Out) -> Sent
     requires { Chained s.now enc.now }
     ensures { Sends (write_fun_def (encoder_in s.now enc.now)) (function s.now at) (output buf.old out.len) (output buf.new result.out.len) result.at }
 {
-    let read = task::read_name(s, at);
-    let SpanRead::At(x, p) = read else {
+    let Ok((x, p)) = task::read_name(s, at) else {
         return Sent { at, out };
     };
-    let params = task::number_at(s, p, 2);
-    let Number::Value(_, q) = params else {
+    let Ok((_, q)) = task::number_at(s, p, 2) else {
         return Sent { at, out };
     };
-    let count = task::number_at(s, q, 2);
-    let Number::Value(n, t) = count else {
+    let Ok((n, t)) = task::number_at(s, q, 2) else {
         return Sent { at, out };
     };
     write_function(s, x, n, t, enc, buf, out)
 }
 
 // Sends the declaration of the KVar at a position.
+#[tactic(auto, using(crate::proofs::Decls::no_name, crate::proofs::Decls::kvar_uncounted, crate::proofs::Decls::kvar_sends))]
 pub fn write_kvar_decl(s: &[u8], at: usize, enc: &[u16], buf: &mut [u8], out: Out) -> Sent
     requires { Chained s.now enc.now }
     ensures { Sends (write_kvar_decl (encoder_in s.now enc.now)) (kvar s.now at) (output buf.old out.len) (output buf.new result.out.len) result.at }
 {
-    let read = task::read_name(s, at);
-    let SpanRead::At(x, p) = read else {
+    let Ok((x, p)) = task::read_name(s, at) else {
         return Sent { at, out };
     };
-    let count = task::number_at(s, p, 2);
-    let Number::Value(n, q) = count else {
+    let Ok((n, q)) = task::number_at(s, p, 2) else {
         return Sent { at, out };
     };
     let opening = open_signature(s, x, n, q, enc, buf, out);

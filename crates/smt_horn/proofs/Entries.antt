@@ -1,4 +1,7 @@
 -- What the steps of the calls add up to.
+use Rattle.std.specs.Prelude.{Result, Ok, Err}
+use Rattle.task.specs.declared.Refusal.{Refusal}
+use Rattle.task.specs.Node.{number_of}
 use mathlib.Core.Path.{◌≡◌, refl, sym, ap, ◌∙◌}
 use mathlib.Core.Bool.{Bool, true, false, cond}
 use mathlib.Core.List.{List, [], ◌∷◌, ◌++◌, map}
@@ -18,13 +21,12 @@ use Rattle.task.proofs.Reading.{le_or_lt}
 use Rattle.trailer.specs.declared.Bounds.{Bounds}
 use Rattle.trailer.specs.Bounds.{bounds_of, Inside}
 use Rattle.inspect.specs.declared.Inspected.{Inspected}
-use Rattle.inspect.specs.declared.Inspected.TheVariants as inspected_is
-use Rattle.inspect.specs.Inspect.{inspected_of, Names}
+use Rattle.inspect.specs.Inspect.{sizes_of, inspected_of, Names}
 use Rattle.smt_text.specs.declared.Edition.{Edition}
 use Rattle.smt_text.specs.Editions.{names_of}
 use Rattle.smt_text.proofs.Texts.{tables}
 use Rattle.names.proofs.Theorems.{changes}
-use Rattle.smt_sort.specs.Section.{edition_in, number_of}
+use Rattle.smt_sort.specs.Section.{edition_in, number_of as number_of_edition}
 use Rattle.smt_sort.proofs.Editions.{numbered}
 use Rattle.horn_text.specs.Clauses.{clauses_of}
 use Rattle.horn_text.specs.Script.{join, parts_of, longest}
@@ -42,14 +44,9 @@ use Rattle.flatten.specs.declared.Progress.{Progress}
 use Rattle.flatten.specs.Parts.{Writing, writing, up, has, most32, place, pass, put, puts}
 use Rattle.flatten.proofs.Totals.{ranged, finished, totals}
 use Rattle.parts.specs.Whole.{fresh, PutsScript, Measured, Accepted}
-use Rattle.smt_horn.specs.declared.Surveyed.TheVariants as survey_is
-use Rattle.smt_horn.specs.declared.Written.{Written}
-use Rattle.smt_horn.specs.declared.Written.TheVariants as written_is
 use Rattle.smt_horn.specs.declared.Asked.{Asked}
 use Rattle.smt_horn.specs.declared.Asked.TheVariants as asked_is
 use Rattle.smt_horn.specs.Calls.{surveyed, written}
-use Rattle.smt_horn.specs.declared.Outcome.{Outcome}
-use Rattle.smt_horn.specs.declared.Outcome.TheVariants as outcome_is
 use Rattle.smt_horn.specs.Putting.{range_of, sized, answer_to, Put, PutsTask, Given, Puts, Answers}
 
 -- a text that fits the buffer stands at its start, before what stood behind
@@ -77,15 +74,16 @@ inside file t o =
     }
 
 -- a task
-pub accepted : (file : List ℕ) (v : Inspected) (b : Bounds) (d h : ℕ) → v ≡ inspected_of file (task_of file) → v ≡ inspected_is.Task b d h → Accepted file b
-accepted file v b d h e e' = go (task_of file) refl
+pub accepted : (file : List ℕ) (i : Inspected) → Ok i ≡ inspected_of file (task_of file) → Accepted file i.bounds
+accepted file i e = go (task_of file) refl
   where
-    go : (x : Res Task) → task_of file ≡ x → Accepted file b
+    go : (x : Res Task) → task_of file ≡ x → Accepted file i.bounds
     go (got t end) u =
-        let y : inspected_is.Task b d h ≡ inspected_is.Task (bounds_of file) (declarations t) (heads_of t.constraint) = sym e' ∙ e ∙ ap (inspected_of file) u in
-        let z : bounds_of file ≡ b = cc in
-        record { inside = rw (← z) (inside file t (opened file t end u)); task = t; end = end; held = u; bounds = sym z }
-    go (refuse n) u = let y : inspected_is.Task b d h ≡ inspected_is.Refused n = sym e' ∙ e ∙ ap (inspected_of file) u in clash (cc)
+        let y : Ok i ≡ Ok (sizes_of (bounds_of file) (declarations t) (heads_of t.constraint)) = e ∙ ap (inspected_of file) u in
+        let z : i ≡ sizes_of (bounds_of file) (declarations t) (heads_of t.constraint) = cc in
+        let b : i.bounds ≡ bounds_of file = ap (λ (j : Inspected). j.bounds) z in
+        record { inside = rw b (inside file t (opened file t end u)); task = t; end = end; held = u; bounds = b }
+    go (refuse n) u = let y : Ok i ≡ Err n = e ∙ ap (inspected_of file) u in clash (cc)
 
 -- WHAT IS ANSWERED
 
@@ -114,15 +112,15 @@ module _ (p : Progress) (room : ℕ) where
 
 -- with a table of the declared names the parts are measured, and written unless the answer is a refusal
 module _ (file table : List ℕ) (b : Bounds) (a : Accepted file b) (d : Names file table) (asked : Asked) (r : Range) (e : r ≡ range_of asked) (p : Progress) (none none' : List ℕ) (z : none ≡ [])
-    (m : Measured file table b r none p none') (buf ls : List ℕ) (x : Written) (y : written x ≡ answer_to asked p (length buf) (length ls)) where
-  pub put_none : (n : ℕ) → x ≡ written_is.Refused n → PutsTask file (edition_in table) asked buf buf ls ls p
+    (m : Measured file table b r none p none') (buf ls : List ℕ) (x : Result ℕ Refusal) (y : written x ≡ answer_to asked p (length buf) (length ls)) where
+  pub put_none : (r : Refusal) → x ≡ Err r → PutsTask file (edition_in table) asked buf buf ls ls p
   unfolding PutsTask Measured
-  put_none n e' t end h =
+  put_none r e' t end h =
       let v = rw (e, z) at (m t end h a.bounds (d.are t end h)) in
-      let w : answer_to asked p (length buf) (length ls) ≡ refused n = sym y ∙ ap written e' in
+      let w : answer_to asked p (length buf) (length ls) ≡ refused (number_of r) = sym y ∙ ap written e' in
       record { seen = v.0; len = v.1; longest = v.2; done = λ ns g. clash (let k = sym g ∙ w in cc); kept = λ k g. (refl, refl) }
 
-  pub put_done : (k : ℕ) (after ls' : List ℕ) (q : Progress) → x ≡ written_is.Length k → PutsScript file table b (fresh r buf ls) (writing q after ls') → PutsTask file (edition_in table) asked buf after ls ls' p
+  pub put_done : (k : ℕ) (after ls' : List ℕ) (q : Progress) → x ≡ Ok k → PutsScript file table b (fresh r buf ls) (writing q after ls') → PutsTask file (edition_in table) asked buf after ls ls' p
   unfolding PutsTask Measured PutsScript
   put_done k after ls' q e' u t end h =
       let n = d.are t end h in
@@ -142,55 +140,53 @@ module _ (file table : List ℕ) (d : Names file table) where
   pub table_words : 0 < length table
   table_words = let r = d.chained.room in omega arith
 
-  module _ (ed : Edition) (table' : List ℕ) (e : table' ≡ set table 0 (number_of ed)) where
+  module _ (ed : Edition) (table' : List ℕ) (e : table' ≡ set table 0 (number_of_edition ed)) where
     pub edition_names : Names file table'
     edition_names =
         rw e
         (record {
-          chained = changes.options file table (number_of ed) d.chained;
-          are = λ t end h. changes.options_entries file table (number_of ed) ∙ d.are t end h;
+          chained = changes.options file table (number_of_edition ed) d.chained;
+          are = λ t end h. changes.options_entries file table (number_of_edition ed) ∙ d.are t end h;
         })
 
     pub edition_is : edition_in table' ≡ ed
-    edition_is = numbered table' ed (rw e (get_or-set_same table 0 (number_of ed) 0 table_words))
+    edition_is = numbered table' ed (rw e (get_or-set_same table 0 (number_of_edition ed) 0 table_words))
 
 -- a refusal
-module _ (file : List ℕ) (v : Inspected) (e : v ≡ inspected_of file (task_of file)) where
-  pub task_refused : (n : ℕ) → v ≡ inspected_is.Refused n → task_of file ≡ refuse n
-  task_refused n e' = go (task_of file) refl
-    where
-      go : (x : Res Task) → task_of file ≡ x → task_of file ≡ refuse n
-      go (got t end) u =
-          let y : inspected_is.Refused n ≡ inspected_is.Task (bounds_of file) (declarations t) (heads_of t.constraint) = sym e' ∙ e ∙ ap (inspected_of file) u in
-          clash (cc)
-      go (refuse m) u =
-          let y : inspected_is.Refused n ≡ inspected_is.Refused m = sym e' ∙ e ∙ ap (inspected_of file) u in
-          let z : m ≡ n = cc in
-          u ∙ ap refuse z
+pub task_refused : (file : List ℕ) (n : ℕ) → Err n ≡ inspected_of file (task_of file) → task_of file ≡ refuse n
+task_refused file n e = go (task_of file) refl
+  where
+    go : (x : Res Task) → task_of file ≡ x → task_of file ≡ refuse n
+    go (got t end) u = let y : Err n ≡ Ok (sizes_of (bounds_of file) (declarations t) (heads_of t.constraint)) = e ∙ ap (inspected_of file) u in clash (cc)
+    go (refuse m) u =
+        let y : ◌≡◌ {A = Result Inspected ℕ} (Err n) (Err m) = e ∙ ap (inspected_of file) u in
+        let z : m ≡ n = cc in
+        u ∙ ap refuse z
 
 -- by what inspect found
-module _ (file : List ℕ) (ed : Edition) (asked : Asked) (v : Inspected) (e : v ≡ inspected_of file (task_of file)) where
-  pub put_refused : (n : ℕ) (buf ls : List ℕ) → v ≡ inspected_is.Refused n → Puts file ed asked buf buf ls ls (outcome_is.Refused n)
+module _ (file : List ℕ) (ed : Edition) (asked : Asked) where
+  pub put_refused : (r : Refusal) (buf ls : List ℕ) → Err (number_of r) ≡ inspected_of file (task_of file) → Puts file ed asked buf buf ls ls (Err r)
   unfolding Puts
-  put_refused n buf ls e' = (task_refused file v e n e', refl, refl)
+  put_refused r buf ls e = (task_refused file (number_of r) e, refl, refl)
 
-  pub put_given : (b : Bounds) (d h : ℕ) (buf after ls ls' : List ℕ) (p : Progress) (ed' : Edition) → v ≡ inspected_is.Task b d h → ed' ≡ ed → PutsTask file ed' asked buf after ls ls' p
-      → Puts file ed asked buf after ls ls' (outcome_is.Parts h p)
+  pub put_given : (i : Inspected) → Ok i ≡ inspected_of file (task_of file) → (buf after ls ls' : List ℕ) (p : Progress) (ed' : Edition) → ed' ≡ ed → PutsTask file ed' asked buf after ls ls' p
+      → Puts file ed asked buf after ls ls' (Ok (i.heads, p))
   unfolding Puts PutsTask
-  put_given b d h buf after ls ls' p ed' e' e'' u =
-      let a = accepted file v b d h e e' in
-      let y : inspected_is.Task b d h ≡ inspected_is.Task (bounds_of file) (declarations a.task) (heads_of a.task.constraint) = sym e' ∙ e ∙ ap (inspected_of file) a.held in
-      record { task = a.task; end = a.end; held = a.held; heads = cc; put = rw (← e'') (u a.task a.end a.held) }
+  put_given i e buf after ls ls' p ed' e' u =
+      let a = accepted file i e in
+      let y : Ok i ≡ Ok (sizes_of (bounds_of file) (declarations a.task) (heads_of a.task.constraint)) = e ∙ ap (inspected_of file) a.held in
+      let z : i ≡ sizes_of (bounds_of file) (declarations a.task) (heads_of a.task.constraint) = cc in
+      record { task = a.task; end = a.end; held = a.held; heads = sym (ap (λ (j : Inspected). j.heads) z); put = rw (← e') (u a.task a.end a.held) }
 
 -- the two cases of an outcome
-module _ (file : List ℕ) (ed : Edition) (asked : Asked) (buf after ls ls' : List ℕ) (o : Outcome) (u : Puts file ed asked buf after ls ls' o) where
-  pub was_given : (h : ℕ) (p : Progress) → o ≡ outcome_is.Parts h p → Given file ed asked buf after ls ls' h p
+module _ (file : List ℕ) (ed : Edition) (asked : Asked) (buf after ls ls' : List ℕ) where
+  pub was_given : (h : ℕ) (p : Progress) → Puts file ed asked buf after ls ls' (Ok (h, p)) → Given file ed asked buf after ls ls' h p
   unfolding Puts
-  was_given h p e = rw e at u
+  was_given h p u = u
 
-  pub was_refused : (n : ℕ) → o ≡ outcome_is.Refused n → (task_of file ≡ refuse n) × (after ≡ buf) × (ls' ≡ ls)
+  pub was_refused : (r : Refusal) → Puts file ed asked buf after ls ls' (Err r) → (task_of file ≡ refuse (number_of r)) × (after ≡ buf) × (ls' ≡ ls)
   unfolding Puts
-  was_refused n e = rw e at u
+  was_refused r u = u
 
 -- WHAT WAS PUT
 
@@ -258,7 +254,7 @@ module _ (file : List ℕ) (by : Bytes file) (ed : Edition) (t : Task) (end : �
       len_is : p.len ≡ length (join ps)
       len_is = put.len ∙ ap (λ (w : Writing). w.len) (all_put [] [])
 
-      pub survey_found : (h : ℕ) → heads_of t.constraint ≡ h → surveyed (survey_is.Sizes p.seen h p.len p.longest) ≡ survey_answer (names_of ed) file
+      pub survey_found : (h : ℕ) → heads_of t.constraint ≡ h → surveyed (Ok (record { parts = p.seen; assertions = h; len = p.len; longest = p.longest })) ≡ survey_answer (names_of ed) file
       unfolding survey_answer
       survey_found h i =
           let e : length (clauses_of t) ≡ h = clauses_number t ∙ i in
@@ -358,12 +354,12 @@ answer_refused file ed (asked_is.Run first count) buf after ls ls' n e = (rw e.0
 -- THE CALLS
 
 pub survey_given : (file : List ℕ) (by : Bytes file) (ed : Edition) (buf after ls ls' : List ℕ) (h : ℕ) (p : Progress) → Given file ed asked_is.All buf after ls ls' h p
-    → surveyed (survey_is.Sizes p.seen h p.len p.longest) ≡ survey_answer (names_of ed) file
+    → surveyed (Ok (record { parts = p.seen; assertions = h; len = p.len; longest = p.longest })) ≡ survey_answer (names_of ed) file
 survey_given file by ed buf after ls ls' h p a = survey_found file by ed a.task a.end a.held buf after ls ls' p a.put h a.heads
 
-pub survey_refused : (file : List ℕ) (ed : Edition) (n : ℕ) → task_of file ≡ refuse n → surveyed (survey_is.Refused n) ≡ survey_answer (names_of ed) file
+pub survey_refused : (file : List ℕ) (ed : Edition) (r : Refusal) → task_of file ≡ refuse (number_of r) → surveyed (Err r) ≡ survey_answer (names_of ed) file
 unfolding survey_answer
-survey_refused file ed n e = rw e
+survey_refused file ed r e = rw e
 
 module _ (file : List ℕ) (ed : Edition) (buf after ls ls' : List ℕ) (x : Answer) where
   pub run_answers : (first count : ℕ) → Answers file ed (asked_is.Run first count) buf after ls ls' x

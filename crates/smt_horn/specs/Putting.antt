@@ -1,5 +1,7 @@
 -- What is put of a task by a call, in an edition. Only contracts of inner functions speak of it.
-use Rattle.std.specs.Prelude.{cond, ◌≡◌, List, [], ◌∷◌, ℕ, leb, length}
+use Rattle.std.specs.Prelude.{Result, Ok, Err, cond, ◌≡◌, List, [], ◌∷◌, ℕ, leb, length}
+use Rattle.task.specs.declared.Refusal.{Refusal}
+use Rattle.task.specs.Node.{number_of}
 use Rattle.task.specs.Ast.{Task}
 use Rattle.task.specs.Decode.{got, refuse}
 use Rattle.task.specs.Task.{task_of, heads_of}
@@ -14,8 +16,6 @@ use Rattle.flatten.specs.Parts.{Writing, up, puts}
 use Rattle.parts.specs.Whole.{fresh}
 use Rattle.smt_horn.specs.declared.Asked.{Asked}
 use Rattle.smt_horn.specs.declared.Asked.TheVariants as asked_is
-use Rattle.smt_horn.specs.declared.Outcome.{Outcome}
-use Rattle.smt_horn.specs.declared.Outcome.TheVariants as outcome_is
 
 -- the numbers of the parts that are asked for
 abbrev pub range_of : Asked → Range
@@ -56,9 +56,9 @@ pub record Given (file : List ℕ) (edition : Edition) (a : Asked) (buf after le
   pub put : Put edition task a buf after lengths lengths' p
 
 -- so it is, or the file was refused and buffer and table are as they were
-unfoldable pub Puts : List ℕ → Edition → Asked → List ℕ → List ℕ → List ℕ → List ℕ → Outcome → Type 0
-Puts file edition a buf after lengths lengths' (outcome_is.Parts h p) = Given file edition a buf after lengths lengths' h p
-Puts file edition a buf after lengths lengths' (outcome_is.Refused n) = (task_of file ≡ refuse n) × (after ≡ buf) × (lengths' ≡ lengths)
+unfoldable pub Puts : List ℕ → Edition → Asked → List ℕ → List ℕ → List ℕ → List ℕ → Result (ℕ × Progress) Refusal → Type 0
+Puts file edition a buf after lengths lengths' (Ok (h, p)) = Given file edition a buf after lengths lengths' h p
+Puts file edition a buf after lengths lengths' (Err r) = (task_of file ≡ refuse (number_of r)) × (after ≡ buf) × (lengths' ≡ lengths)
 
 -- what a call for parts answers and leaves
 unfoldable pub Answers : List ℕ → Edition → Asked → List ℕ → List ℕ → List ℕ → List ℕ → Answer → Type 0

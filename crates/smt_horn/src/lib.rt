@@ -1,9 +1,9 @@
-// `survey`, `part`, `run` and `script`: what `smt_horn.rs` writes for a task file, or the number of a refusal. They answer for any bytes, and write
+// `survey`, `part`, `run` and `script`: what `smt_horn.rs` writes for a task file, or the refusal. They answer for any bytes, and write
 // nothing before all that could refuse has been checked. The caller picks the edition with each call: with `Z3` the text is that of the source,
 // with `Cvc5` the set functions have the names of cvc5 in it.
 #![tactic(auto)]
 
-ghost use Rattle.std.specs.Prelude.{◌≡◌, length};
+ghost use Rattle.std.specs.Prelude.{◌≡◌, ◌+◌, ◌≤◌, length};
 ghost use Rattle.inspect.specs.Inspect.{Room, Names};
 ghost use Rattle.smt_text.specs.Editions.{names_of};
 ghost use Rattle.smt_sort.specs.Section.{edition_in};
@@ -14,23 +14,17 @@ ghost use Rattle.smt_horn.specs.Calls.{surveyed, written};
 ghost use Rattle.smt_horn.specs.Putting.{range_of, sized as sized_of, answer_to, PutsTask, Puts, Answers};
 
 use flatten::{Progress, Range};
-use inspect::Inspected;
 use smt_text::Edition;
+use task::Refusal;
 use trailer::Bounds;
 
-// What `survey` answers: the numbers of parts and of assertions, the length of the script and that of its longest part; or the number of the
-// refusal.
-#[derive(Clone, Copy)]
-pub enum Surveyed {
-    Sizes(usize, usize, usize, usize),
-    Refused(u8),
-}
-
-// What `part`, `run` and `script` answer: the written length, or the number of the refusal.
-#[derive(Clone, Copy)]
-pub enum Written {
-    Length(usize),
-    Refused(u8),
+// The numbers of parts and of assertions, the length of the script and that of its longest part.
+#[derive(Clone, Copy, PartialEq, Eq, Debug)]
+pub struct Sizes {
+    pub parts: usize,
+    pub assertions: usize,
+    pub len: usize,
+    pub longest: usize,
 }
 
 // What a call asks for: all parts; or those of a run, from a first one on and so many, with the length of each.
@@ -41,22 +35,18 @@ enum Asked {
 }
 
 // What a call finds: the number of the task's heads that are not literally true, and what was counted and measured of the parts that are asked
-// for; or the number of the refusal.
-#[derive(Clone, Copy)]
-enum Outcome {
-    Parts(u64, Progress),
-    Refused(u8),
-}
+// for; or the refusal.
+type Outcome = Result<(u64, Progress), Refusal>;
 
 // The length of what was measured, or 9 if it is more than there is room for.
-fn sized(sizes: Progress, room: usize) -> Written
+fn sized(sizes: Progress, room: usize) -> Result<usize, Refusal>
     ensures { written result ≡ sized_of sizes room }
 {
     let len = sizes.len;
     if room < len {
-        return Written::Refused(9);
+        return Err(Refusal::Room);
     }
-    Written::Length(len)
+    Ok(len)
 }
 
 impl Asked {
@@ -67,7 +57,7 @@ impl Asked {
         match self {
             Asked::All => Range {
                 from: 0,
-                to: 18446744073709551615,
+                to: usize::MAX,
             },
             Asked::Run(first, count) => Range {
                 from: first,
@@ -77,17 +67,17 @@ impl Asked {
     }
 
     // What is answered once they were counted and measured: of a run all must be there, and the table must have a place for each.
-    fn answer(self, sizes: Progress, room: usize, places: usize) -> Written
+    fn answer(self, sizes: Progress, room: usize, places: usize) -> Result<usize, Refusal>
         ensures { written result ≡ answer_to self sizes room places }
     {
         match self {
             Asked::All => sized(sizes, room),
             Asked::Run(first, count) => {
                 if sizes.seen < output::sum(first, count) {
-                    return Written::Refused(8);
+                    return Err(Refusal::Part);
                 }
                 if places < count {
-                    return Written::Refused(9);
+                    return Err(Refusal::Room);
                 }
                 sized(sizes, room)
             }
@@ -110,8 +100,7 @@ fn put_task(
     let range = asked.range();
     let mut none = [0u32; 0];
     let sizes = parts::measure(file, b, enc, range, &mut none);
-    let answer = asked.answer(sizes, buf.len(), lengths.len());
-    let Written::Length(_) = answer else {
+    let Ok(_) = asked.answer(sizes, buf.len(), lengths.len()) else {
         return sizes;
     };
     parts::write_smt_horn(file, b, enc, range, buf, lengths);
@@ -130,14 +119,25 @@ fn put_with(
     requires { Room file.now table.old }
     ensures { Puts file.now edition asked buf.old buf.new lengths.old lengths.new result }
 {
-    let inspected = inspect::inspect(file, table);
-    match inspected {
-        Inspected::Task(b, _, heads) => {
-            smt_sort::set_edition(table, edition);
-            Outcome::Parts(heads, put_task(file, b, table, asked, buf, lengths))
-        }
-        Inspected::Refused(n) => Outcome::Refused(n),
-    }
+    let found = inspect::inspect(file, table)?;
+    let b = found.bounds;
+    smt_sort::set_edition(table, edition);
+    Ok((found.heads, put_task(file, b, table, asked, buf, lengths)))
+}
+
+// The same with a table of N words.
+fn put_within<const N: usize>(
+    file: &[u8],
+    edition: Edition,
+    asked: Asked,
+    buf: &mut [u8],
+    lengths: &mut [u32],
+) -> Outcome
+    requires { (1026 ≤ N) × (N ≤ 61026) × (length file.now ≤ 60000 → 1026 + length file.now ≤ N) }
+    ensures { Puts file.now edition asked buf.old buf.new lengths.old lengths.new result }
+{
+    let mut table = [0u16; N];
+    put_with(file, edition, asked, buf, lengths, &mut table)
 }
 
 // The same with a table by the file's length: a short file does not wait for a long table to be cleared.
@@ -151,15 +151,12 @@ fn put_parts(
     ensures { Puts file.now edition asked buf.old buf.new lengths.old lengths.new result }
 {
     if file.len() <= 1000 {
-        let mut table = [0u16; 2026];
-        return put_with(file, edition, asked, buf, lengths, &mut table);
+        put_within::<2026>(file, edition, asked, buf, lengths)
+    } else if file.len() <= 8000 {
+        put_within::<9026>(file, edition, asked, buf, lengths)
+    } else {
+        put_within::<61026>(file, edition, asked, buf, lengths)
     }
-    if file.len() <= 8000 {
-        let mut table = [0u16; 9026];
-        return put_with(file, edition, asked, buf, lengths, &mut table);
-    }
-    let mut table = [0u16; 61026];
-    put_with(file, edition, asked, buf, lengths, &mut table)
 }
 
 // The parts of a file that are asked for: they are written to the buffer's start and their lengths to the table's, or nothing is.
@@ -169,34 +166,28 @@ fn write_parts(
     asked: Asked,
     buf: &mut [u8],
     lengths: &mut [u32],
-) -> Written
+) -> Result<usize, Refusal>
     ensures { Answers file.now edition asked buf.old buf.new lengths.old lengths.new (written result) }
 {
     let room = buf.len();
     let places = lengths.len();
-    let put = put_parts(file, edition, asked, buf, lengths);
-    match put {
-        Outcome::Parts(_, sizes) => asked.answer(sizes, room, places),
-        Outcome::Refused(n) => Written::Refused(n),
-    }
+    let (_, sizes) = put_parts(file, edition, asked, buf, lengths)?;
+    asked.answer(sizes, room, places)
 }
 
-// The numbers of parts and of assertions, the length of the script and that of its longest part; or the number of a refusal.
-pub fn survey(file: &[u8], edition: Edition) -> Surveyed
+// The numbers of parts and of assertions, the length of the script and that of its longest part; or the refusal.
+pub fn survey(file: &[u8], edition: Edition) -> Result<Sizes, Refusal>
     ensures { surveyed result ≡ survey_answer (names_of edition) file.now }
 {
     let mut none = [0u8; 0];
     let mut lengths = [0u32; 0];
-    let put = put_parts(file, edition, Asked::All, &mut none, &mut lengths);
-    match put {
-        Outcome::Parts(heads, all) => Surveyed::Sizes(
-            all.seen,
-            heads as usize,
-            all.len,
-            all.longest,
-        ),
-        Outcome::Refused(n) => Surveyed::Refused(n),
-    }
+    let (heads, all) = put_parts(file, edition, Asked::All, &mut none, &mut lengths)?;
+    Ok(Sizes {
+        parts: all.seen,
+        assertions: heads as usize,
+        len: all.len,
+        longest: all.longest,
+    })
 }
 
 // Writes `count` parts from number `first` on, joined, to the buffer's start and the length of each to the table's; or survey's refusal, then 8 if
@@ -208,7 +199,7 @@ pub fn run(
     count: usize,
     buf: &mut [u8],
     lengths: &mut [u32],
-) -> Written
+) -> Result<usize, Refusal>
     ensures { (written result ≡ run_answer (names_of edition) file.now first count (length buf.old) (length lengths.old)) × (buf.new ≡ run_buffer (names_of edition) file.now first count buf.old lengths.old) × (lengths.new ≡ run_table (names_of edition) file.now first count buf.old lengths.old) }
 {
     write_parts(file, edition, Asked::Run(first, count), buf, lengths)
@@ -216,7 +207,7 @@ pub fn run(
 
 // Writes part i to the buffer's start; or survey's refusal, then 8 if there is no such part, then 9 if it is longer than the buffer. It is the
 // run of that part alone.
-pub fn part(file: &[u8], edition: Edition, i: usize, buf: &mut [u8]) -> Written
+pub fn part(file: &[u8], edition: Edition, i: usize, buf: &mut [u8]) -> Result<usize, Refusal>
     ensures { (written result ≡ part_answer (names_of edition) file.now i (length buf.old)) × (buf.new ≡ part_buffer (names_of edition) file.now i buf.old) }
 {
     let mut lengths = [0u32; 1];
@@ -225,7 +216,7 @@ pub fn part(file: &[u8], edition: Edition, i: usize, buf: &mut [u8]) -> Written
 
 // Writes the script to the buffer's start; or survey's refusal, then 9 if it is longer than the buffer. What the buffer then holds carries
 // demand 3.
-pub fn script(file: &[u8], edition: Edition, buf: &mut [u8]) -> Written
+pub fn script(file: &[u8], edition: Edition, buf: &mut [u8]) -> Result<usize, Refusal>
     ensures written { (written result ≡ script_answer (names_of edition) file.now (length buf.old)) × (buf.new ≡ script_buffer (names_of edition) file.now buf.old) }
     ensures promised { Promised (names_of edition) file.now buf.old buf.new }
 {

@@ -1,7 +1,6 @@
 -- What the code's values stand for in what is written.
 use Rattle.std.specs.Prelude.{ℕ, List, get_or}
 use Rattle.task.specs.Ast.{SortCtor, Sorts, Binder}
-use Rattle.task.specs.Node.{bytes_of}
 use Rattle.names.specs.declared.Kind.{Kind}
 use Rattle.names.specs.declared.Kind.TheVariants.{Datatype, Constructor}
 use Rattle.names.specs.Table.{entries}
@@ -32,10 +31,10 @@ unfoldable pub encoder_in : List ℕ → List ℕ → Encoder
 encoder_in s enc = encoder (names_of (edition_in enc)) (record { constructors = declared_in s enc Constructor; datatypes = declared_in s enc Datatype })
 
 -- what an applied sort is made by
-abbrev pub ctor_of : List ℕ → code.SortCtor → SortCtor
-ctor_of s ctor.Set = SortCtor.set
-ctor_of s ctor.Map = SortCtor.map
-ctor_of s (ctor.Data x) = SortCtor.named (bytes_of s x)
+abbrev pub ctor_of : code.SortCtor → SortCtor
+ctor_of ctor.Set = SortCtor.set
+ctor_of ctor.Map = SortCtor.map
+ctor_of (ctor.Data x) = SortCtor.named x.now
 
 -- sorts, a space before each
 unfoldable pub sorts_text : Encoder → Sorts → List ℕ

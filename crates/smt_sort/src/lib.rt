@@ -6,47 +6,34 @@ ghost use Rattle.std.specs.Prelude.{◌≡◌, [], ◌∷◌, ◌<◌, length, s
 ghost use Rattle.smtlib.specs.Lexicon.{is_one};
 ghost use Rattle.task.specs.Ast.{Sorts};
 ghost use Rattle.task.specs.Decode.{many, binder, dec_sort};
-ghost use Rattle.task.specs.Node.{bytes_of, sort_of};
+ghost use Rattle.task.specs.Node.{sort_of};
 ghost use Rattle.names.specs.Table.{Chained};
 ghost use Rattle.smt_text.specs.Text.{write_sort_ctor, write_sort, write_binder};
 ghost use Rattle.output.specs.Emit.{output, emits, Sends};
 ghost use Rattle.smt_sort.specs.Section.{declared_in, edition_in, number_of, encoder_in, ctor_of, sorts_text, sort_list, applied_text, binders_text, binder_list};
 
-use names::{Found, Kind};
+use names::Kind;
 use output::Out;
 use smt_text::Edition;
 use smt_word::Sent;
-use task::{SortNode, Span, SpanRead};
-use task_check::Walked;
+use task::SortNode;
 
 // What an applied sort is made by.
 #[derive(Clone, Copy)]
-pub enum SortCtor {
+pub enum SortCtor<'a> {
     Set,
     Map,
-    Data(Span),
+    Data(&'a [u8]),
 }
 
 // The edition that the encoder is for.
+#[tactic(auto, using(crate::proofs::Editions::no_words, crate::proofs::Editions::zero_word, crate::proofs::Editions::other_word))]
 pub fn edition_of(enc: &[u16]) -> Edition
     ensures { result ≡ edition_in enc.now }
 {
-    if enc.len() == 0 {
-        return Edition::Z3;
-    }
-    if enc[0] == 0 {
-        return Edition::Z3;
-    }
-    Edition::Cvc5
-}
-
-// The number of an edition.
-fn number_of(edition: Edition) -> u16
-    ensures { result ≡ number_of edition }
-{
-    match edition {
-        Edition::Z3 => 0,
-        Edition::Cvc5 => 1,
+    match enc {
+        [] | [0, ..] => Edition::Z3,
+        _ => Edition::Cvc5,
     }
 }
 
@@ -55,34 +42,32 @@ pub fn set_edition(enc: &mut [u16], edition: Edition)
     requires { 0 < length enc.old }
     ensures { enc.new ≡ set enc.old 0 (number_of edition) }
 {
-    enc[0] = number_of(edition);
+    enc[0] = edition as u16;
 }
 
 // Whether a name is that of a declared piece of the kind.
-pub fn is_declared(s: &[u8], enc: &[u16], x: Span, kind: Kind) -> bool
+#[tactic(auto, using(crate::proofs::Sorts::declared_is))]
+pub fn is_declared(s: &[u8], enc: &[u16], x: &[u8], kind: Kind) -> bool
     requires { Chained s.now enc.now }
-    ensures { result ≡ is_one (bytes_of s.now x) (declared_in s.now enc.now kind) }
+    ensures { result ≡ is_one x.now (declared_in s.now enc.now kind) }
 {
-    let name = task::bytes_of(s, x);
-    let found = names::find(s, enc, name, kind, kind);
-    let Found::Entry(_) = found else {
-        return false;
-    };
-    true
+    names::find(s, enc, x, kind, kind).is_some()
 }
 
 // Sends what an applied sort is made by.
-fn write_sort_ctor(s: &[u8], ctor: SortCtor, buf: &mut [u8], out: Out) -> Out
-    ensures { output buf.new result.len ≡ emits (output buf.old out.len) (write_sort_ctor (ctor_of s.now ctor)) }
+#[tactic(auto, unfolding(smt_text::specs::Text::write_name))]
+fn write_sort_ctor(ctor: SortCtor, buf: &mut [u8], out: Out) -> Out
+    ensures { output buf.new result.len ≡ emits (output buf.old out.len) (write_sort_ctor (ctor_of ctor.entry)) }
 {
     match ctor {
         SortCtor::Set => out.bytes(buf, b"Set"),
         SortCtor::Map => out.bytes(buf, b"Array"),
-        SortCtor::Data(x) => out.name(buf, s, x),
+        SortCtor::Data(x) => out.bytes(buf, x),
     }
 }
 
 // Sends the sort at a position.
+#[tactic(auto, using(crate::proofs::Sorts::sort_none, crate::proofs::Sorts::sort_refused, crate::proofs::Sorts::sort_arm, crate::proofs::Sorts::int_arm, crate::proofs::Sorts::bool_arm, crate::proofs::Sorts::real_arm, crate::proofs::Sorts::str_arm, crate::proofs::Sorts::bv_size_arm, crate::proofs::Sorts::var_arm, crate::proofs::Sorts::abs_arm, crate::proofs::Sorts::set_arm, crate::proofs::Sorts::map_arm))]
 #[cycle(sorts)]
 pub fn write_sort(s: &[u8], at: usize, levels: usize, enc: &[u16], buf: &mut [u8], out: Out) -> Sent
     requires { Chained s.now enc.now }
@@ -92,29 +77,31 @@ pub fn write_sort(s: &[u8], at: usize, levels: usize, enc: &[u16], buf: &mut [u8
         return Sent { at, out };
     }
     let below = levels - 1;
-    let node = task::read_sort_node(s, at);
+    let Ok((node, p)) = task::read_sort_node(s, at) else {
+        return Sent { at, out };
+    };
     match node {
-        SortNode::Int(p) => smt_word::write_word(b"Int", p, buf, out),
-        SortNode::Bool(p) => smt_word::write_word(b"Bool", p, buf, out),
-        SortNode::Real(p) => smt_word::write_word(b"Real", p, buf, out),
-        SortNode::Str(p) => smt_word::write_word(b"String", p, buf, out),
-        SortNode::BitVec(p) => write_bit_vec(s, p, below, enc, buf, out),
-        SortNode::BvSize(n, p) => smt_word::write_number(n, p, buf, out),
-        SortNode::Var(i, p) => smt_word::write_parameter(i, p, buf, out),
-        SortNode::Func(p) => write_array(s, p, below, enc, buf, out),
-        SortNode::Abs(_, p) => write_sort(s, p, below, enc, buf, out),
-        SortNode::Set(n, p) => write_applied(s, SortCtor::Set, n, p, below, enc, buf, out),
-        SortNode::Map(n, p) => write_applied(s, SortCtor::Map, n, p, below, enc, buf, out),
-        SortNode::Data(x, n, p) => write_data(s, x, n, p, below, enc, buf, out),
-        SortNode::Refused => Sent { at, out },
+        SortNode::Int => smt_word::write_word(b"Int", p, buf, out),
+        SortNode::Bool => smt_word::write_word(b"Bool", p, buf, out),
+        SortNode::Real => smt_word::write_word(b"Real", p, buf, out),
+        SortNode::Str => smt_word::write_word(b"String", p, buf, out),
+        SortNode::BitVec => write_bit_vec(s, p, below, enc, buf, out),
+        SortNode::BvSize(n) => smt_word::write_number(n, p, buf, out),
+        SortNode::Var(i) => smt_word::write_parameter(i, p, buf, out),
+        SortNode::Func => write_array(s, p, below, enc, buf, out),
+        SortNode::Abs(_) => write_sort(s, p, below, enc, buf, out),
+        SortNode::Set(n) => write_applied(s, SortCtor::Set, n, p, below, enc, buf, out),
+        SortNode::Map(n) => write_applied(s, SortCtor::Map, n, p, below, enc, buf, out),
+        SortNode::Data(x, n) => write_data(s, x, n, p, below, enc, buf, out),
     }
 }
 
 // A BitVec with its width.
+#[tactic(auto, using(crate::proofs::Sorts::bit_vec_sends))]
 #[cycle(sorts)]
 fn write_bit_vec(s: &[u8], at: usize, levels: usize, enc: &[u16], buf: &mut [u8], out: Out) -> Sent
     requires { Chained s.now enc.now }
-    ensures { Sends (write_sort (encoder_in s.now enc.now)) (sort_of s.now (dec_sort levels) (SortNode.BitVec at)) (output buf.old out.len) (output buf.new result.out.len) result.at }
+    ensures { Sends (write_sort (encoder_in s.now enc.now)) (sort_of s.now (dec_sort levels) (Ok (SortNode.BitVec, at))) (output buf.old out.len) (output buf.new result.out.len) result.at }
 {
     let opened = out.bytes(buf, b"(_ BitVec ");
     let width = write_sort(s, at, levels, enc, buf, opened);
@@ -127,10 +114,11 @@ fn write_bit_vec(s: &[u8], at: usize, levels: usize, enc: &[u16], buf: &mut [u8]
 }
 
 // A Func as an array.
+#[tactic(auto, using(crate::proofs::Sorts::func_sends))]
 #[cycle(sorts)]
 fn write_array(s: &[u8], at: usize, levels: usize, enc: &[u16], buf: &mut [u8], out: Out) -> Sent
     requires { Chained s.now enc.now }
-    ensures { Sends (write_sort (encoder_in s.now enc.now)) (sort_of s.now (dec_sort levels) (SortNode.Func at)) (output buf.old out.len) (output buf.new result.out.len) result.at }
+    ensures { Sends (write_sort (encoder_in s.now enc.now)) (sort_of s.now (dec_sort levels) (Ok (SortNode.Func, at))) (output buf.old out.len) (output buf.new result.out.len) result.at }
 {
     let opened = out.bytes(buf, b"(Array ");
     let from = write_sort(s, at, levels, enc, buf, opened);
@@ -158,14 +146,14 @@ fn write_applied(
     out: Out,
 ) -> Sent
     requires { Chained s.now enc.now }
-    ensures { Sends (applied_text (encoder_in s.now enc.now) (ctor_of s.now ctor)) (many Sorts.none Sorts.more (dec_sort levels) n s.now at) (output buf.old out.len) (output buf.new result.out.len) result.at }
+    ensures { Sends (applied_text (encoder_in s.now enc.now) (ctor_of ctor.entry)) (many Sorts.none Sorts.more (dec_sort levels) n s.now at) (output buf.old out.len) (output buf.new result.out.len) result.at }
 {
     if n == 0 {
-        let sent = write_sort_ctor(s, ctor, buf, out);
+        let sent = write_sort_ctor(ctor, buf, out);
         return Sent { at, out: sent };
     }
     let opened = out.byte(buf, b'(');
-    let made = write_sort_ctor(s, ctor, buf, opened);
+    let made = write_sort_ctor(ctor, buf, opened);
     let sorts = write_sorts(s, at, n, levels, enc, buf, made);
     let sent = sorts.out;
     let closed = sent.byte(buf, b')');
@@ -176,10 +164,11 @@ fn write_applied(
 }
 
 // A datatype, or `Int` for one that is not declared.
+#[tactic(auto, using(crate::proofs::Sorts::data_sends, crate::proofs::Sorts::opaque_sends, crate::proofs::Sorts::skipped_sends))]
 #[cycle(sorts)]
 fn write_data(
     s: &[u8],
-    x: Span,
+    x: &[u8],
     n: u64,
     at: usize,
     levels: usize,
@@ -188,19 +177,19 @@ fn write_data(
     out: Out,
 ) -> Sent
     requires { Chained s.now enc.now }
-    ensures { Sends (write_sort (encoder_in s.now enc.now)) (sort_of s.now (dec_sort levels) (SortNode.Data x n at)) (output buf.old out.len) (output buf.new result.out.len) result.at }
+    ensures { Sends (write_sort (encoder_in s.now enc.now)) (sort_of s.now (dec_sort levels) (Ok (SortNode.Data x.entry n, at))) (output buf.old out.len) (output buf.new result.out.len) result.at }
 {
     if is_declared(s, enc, x, Kind::Datatype) {
         return write_applied(s, SortCtor::Data(x), n, at, levels, enc, buf, out);
     }
-    let sorts = task_check::check_sorts(s, at, n, levels);
-    let Walked::Next(_, p) = sorts else {
+    let Ok((_, p)) = task_check::check_sorts(s, at, n, levels) else {
         return Sent { at, out };
     };
     smt_word::write_word(b"Int", p, buf, out)
 }
 
 // Sends n sorts, a space before each.
+#[tactic(auto, using(crate::proofs::Rows::row_starts, crate::proofs::Rows::row_goes, crate::proofs::Rows::row_ends), unfolding(crate::specs::Section::sorts_text))]
 #[cycle(sorts)]
 fn write_sorts(
     s: &[u8],
@@ -215,14 +204,12 @@ fn write_sorts(
     ensures { Sends (sorts_text (encoder_in s.now enc.now)) (many Sorts.none Sorts.more (dec_sort levels) n s.now at) (output buf.old out.len) (output buf.new result.out.len) result.at }
 {
     let mut p = at;
-    let mut left = n;
     let mut sent = out;
-    while 0 < left {
+    for _ in 0..n {
         let spaced = sent.byte(buf, b' ');
         let one = write_sort(s, p, levels, enc, buf, spaced);
         p = one.at;
         sent = one.out;
-        left -= 1;
     }
     Sent { at: p, out: sent }
 }
@@ -255,6 +242,7 @@ pub fn write_sort_list(
 }
 
 // Sends a name with its sort.
+#[tactic(auto, using(crate::proofs::Sorts::no_name, crate::proofs::Sorts::binder_sends))]
 pub fn write_binder(
     s: &[u8],
     at: usize,
@@ -266,12 +254,11 @@ pub fn write_binder(
     requires { Chained s.now enc.now }
     ensures { Sends (write_binder (encoder_in s.now enc.now)) (binder levels s.now at) (output buf.old out.len) (output buf.new result.out.len) result.at }
 {
-    let read = task::read_name(s, at);
-    let SpanRead::At(x, p) = read else {
+    let Ok((x, p)) = task::read_name(s, at) else {
         return Sent { at, out };
     };
     let opened = out.byte(buf, b'(');
-    let named = opened.name(buf, s, x);
+    let named = opened.bytes(buf, x);
     let spaced = named.byte(buf, b' ');
     let sort = write_sort(s, p, levels, enc, buf, spaced);
     let sent = sort.out;
@@ -283,6 +270,7 @@ pub fn write_binder(
 }
 
 // Sends n names with their sorts, a space before each.
+#[tactic(auto, using(crate::proofs::Rows::row_starts, crate::proofs::Rows::row_goes, crate::proofs::Rows::row_ends), unfolding(crate::specs::Section::binders_text))]
 pub fn write_binders(
     s: &[u8],
     at: usize,
@@ -296,14 +284,12 @@ pub fn write_binders(
     ensures { Sends (binders_text (encoder_in s.now enc.now)) (many [] ◌∷◌ (binder levels) n s.now at) (output buf.old out.len) (output buf.new result.out.len) result.at }
 {
     let mut p = at;
-    let mut left = n;
     let mut sent = out;
-    while 0 < left {
+    for _ in 0..n {
         let spaced = sent.byte(buf, b' ');
         let one = write_binder(s, p, levels, enc, buf, spaced);
         p = one.at;
         sent = one.out;
-        left -= 1;
     }
     Sent { at: p, out: sent }
 }

@@ -4,12 +4,11 @@
 ghost use Rattle.std.specs.Prelude.{◌≡◌, ◌∷◌, ◌+◌, ◌*◌, ◌^◌};
 ghost use Rattle.smtlib.specs.Compose.{decimal};
 ghost use Rattle.task.specs.Ast.{Constant};
-ghost use Rattle.task.specs.Node.{bytes_of};
 ghost use Rattle.smt_text.specs.Text.{write_name, write_string as string_text, write_parameter as parameter_text, write_constant, write_boolean as boolean_text, write_quantifier};
 ghost use Rattle.output.specs.Emit.{output, emits};
 
 use output::Out;
-use task::{Quantifier, Span};
+use task::Quantifier;
 
 // Where a writer ended, and the output then.
 #[derive(Clone, Copy)]
@@ -35,6 +34,7 @@ pub fn write_number(n: u64, p: usize, buf: &mut [u8], out: Out) -> Sent
 }
 
 // Sends parameter i of a datatype.
+#[tactic(auto, unfolding(output::specs::Emit::emits))]
 pub fn write_parameter(i: u64, p: usize, buf: &mut [u8], out: Out) -> Sent
     ensures { (result.at ≡ p) × (output buf.new result.out.len ≡ emits (output buf.old out.len) (parameter_text i)) }
 {
@@ -62,14 +62,15 @@ pub fn write_boolean(b: bool, p: usize, buf: &mut [u8], out: Out) -> Sent
 }
 
 // Sends a string.
-pub fn write_string(s: &[u8], x: Span, p: usize, buf: &mut [u8], out: Out) -> Sent
-    ensures { (result.at ≡ p) × (output buf.new result.out.len ≡ emits (output buf.old out.len) (string_text (bytes_of s.now x))) }
+pub fn write_string(x: &[u8], p: usize, buf: &mut [u8], out: Out) -> Sent
+    ensures { (result.at ≡ p) × (output buf.new result.out.len ≡ emits (output buf.old out.len) (string_text x.now)) }
 {
-    let sent = out.string(buf, s, x);
+    let sent = out.string(buf, x);
     Sent { at: p, out: sent }
 }
 
 // Sends a value of a BitVec with its width.
+#[tactic(auto, using(output::proofs::Sent::emits_append), unfolding(output::specs::Emit::emits))]
 pub fn write_bit_vec(lo: u64, hi: u64, width: u64, p: usize, buf: &mut [u8], out: Out) -> Sent
     ensures { (result.at ≡ p) × (output buf.new result.out.len ≡ emits (output buf.old out.len) (write_constant (Constant.bit_vec (lo + 2 ^ 64 * hi) width))) }
 {
@@ -82,10 +83,11 @@ pub fn write_bit_vec(lo: u64, hi: u64, width: u64, p: usize, buf: &mut [u8], out
 }
 
 // Sends a name.
-pub fn write_var(s: &[u8], x: Span, p: usize, buf: &mut [u8], out: Out) -> Sent
-    ensures { (result.at ≡ p) × (output buf.new result.out.len ≡ emits (output buf.old out.len) (write_name (bytes_of s.now x))) }
+#[tactic(auto, unfolding(smt_text::specs::Text::write_name))]
+pub fn write_var(x: &[u8], p: usize, buf: &mut [u8], out: Out) -> Sent
+    ensures { (result.at ≡ p) × (output buf.new result.out.len ≡ emits (output buf.old out.len) (write_name x.now)) }
 {
-    let sent = out.name(buf, s, x);
+    let sent = out.bytes(buf, x);
     Sent { at: p, out: sent }
 }
 

@@ -4,10 +4,10 @@ use mathlib.Core.Bool.{Bool, true, false, not, cond, ◌&&◌, ◌||◌, and_ass
 use mathlib.Core.Logic.{◌⊎◌, inl, inr}
 use mathlib.Core.List.{List, [], ◌∷◌, ◌++◌}
 use Prim.Native.String.{String}
-use Prim.Native.Nat.{ℕ, ◌<◌, ◌≤◌}
+use Prim.Native.Nat.{ℕ}
 use native.Mathlib.Omega.{arith}
-use lib.Dec.{T, leb, eqb, eqb→eq, not_T}
-use borrow.Author.Tests.{le-leb, lt-leb, eq-eqb}
+use lib.Dec.{T, eqb, eqb→eq, not_T}
+use borrow.Author.Tests.{eq-eqb}
 use Rattle.smtlib.specs.Lexicon.{bytes, all, any, same, among}
 
 pub is_true : (v : Bool) → T v → v ≡ true
@@ -52,13 +52,6 @@ or_right false b t = t
 pub either : (a b : Bool) → T (a || b) → T a ⊎ T b
 either true b t = inl tt
 either false b t = inr t
-
--- a number below a range, and one from the range's first number on
-pub below_range : (a z b : ℕ) → b < a → false ≡ (leb a b && leb b z)
-below_range a z b h = simp (lt-leb a b h)
-
-pub from_range : (a z b : ℕ) → a ≤ b → leb b z ≡ (leb a b && leb b z)
-from_range a z b h = simp (le-leb a b h)
 
 -- 0 is not 1
 pub clash : {A : Type 0} → ◌≡◌ {A = ℕ} 0 1 → A

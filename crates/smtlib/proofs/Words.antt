@@ -1,58 +1,34 @@
 -- What the code's functions are proved with: a law for each way through, over plain variables.
-use mathlib.Core.Path.{◌≡◌, refl, sym, ap, ◌∙◌, subst}
-use mathlib.Core.Bool.{Bool, true, false, not, cond, ◌&&◌, ◌||◌, and-true, and-false}
+use mathlib.Core.Path.{◌≡◌, refl, sym, ap, ◌∙◌, subst, subst⁻¹}
+use mathlib.Core.Bool.{Bool, true, false, not, cond, ◌&&◌, ◌||◌}
 use mathlib.Core.Logic.{◌⊎◌, inl, inr}
 use mathlib.Core.List.{List, [], ◌∷◌, ◌++◌, append_assoc, append-nil}
 use Prim.Native.Nat.{ℕ, zero, suc, ◌+◌, ◌-◌, ◌≤◌, ◌<◌}
 use Prim.Native.String.{String}
 use native.Mathlib.Numerals.{add-one}
-use native.Mathlib.Nat.{le_of_suc-le-suc, not-suc-le-zero, add-sub_cancel_left}
+use native.Mathlib.Nat.{le_of_suc-le-suc, not-suc-le-zero}
 use native.Mathlib.Omega.{arith}
 use lib.Dec.{T, leb, eqb, eqb→eq, leb→le}
-use lib.ListN.{length, get_or, take, drop, length-drop, length-append, drop_of_length-le}
-use lib.Seq.{drop-cons, drop-drop, take_at, drop_at, take-suc, take-length}
-use borrow.Author.Tests.{eq-eqb, ne_eqb, eqb-false}
-use Rattle.smtlib.specs.Lexicon.{bytes, all, any, same, among, reserved_words, is_reserved, digit, letter, symbol_byte, is_simple, is_symbol}
+use lib.ListN.{length, get_or, take, drop, length-append}
+use lib.Seq.{take_at, drop_at}
+use borrow.Author.Tests.{eqb-false, leb-true, leb-false, le-leb}
+use lib.Pointwise.{pointwise}
+use Rattle.std.specs.List.{list_all, list_any}
+use Rattle.std.specs.declared.slice.ChunksExact.{ChunksExact}
+use Rattle.std.specs.Iterator.{AlwaysYields}
+use Rattle.std.proofs.lemmas.Iterator.{YieldsList}
+use Rattle.std.specs.Slice.Iter.{chunks_exact_rest, chunks_exact_size, chunks_exact_steps}
+use Rattle.smtlib.specs.Lexicon.{bytes, all, same, among, reserved_words, is_reserved, symbol_byte}
 use Rattle.smtlib.specs.Table.{symbol_place, symbol_places, pieces, one_of, in_row}
-use Rattle.smtlib.proofs.Bools.{never, true_holds, and_right, either, any_all, same→eq, among_each, all_append}
+use Rattle.smtlib.proofs.Bools.{never, true_holds, and_left, and_right, either, same→eq, among_each}
 use Rattle.smtlib.proofs.Entries.{value_at}
 
 -- same_bytes
 
--- the bytes before i are the same, so the answer is that of the rest
-pub record Comparing (a b : List ℕ) (i : ℕ) : Type 0 where
-  pub within : i ≤ length a
-  pub lengths : length a ≡ length b
-  pub rest : same (drop i a) (drop i b) ≡ same a b
-
 pub same_lengths : (a b : List ℕ) → (length a ≡ length b → ⊥) → false ≡ same a b
 same_lengths a b n = sym (never (same a b) (λ t. n (ap length (same→eq a b t))))
 
-same_at : (a b : List ℕ) (i : ℕ) → Comparing a b i → i < length a
-    → same a b ≡ eqb (get_or a i 0) (get_or b i 0) && same (drop (i + 1) a) (drop (i + 1) b)
-same_at a b i s h = sym s.rest ∙ rw (add-one i, drop-cons a i 0 h, drop-cons b i 0 (omega arith))
-
-pub same_start : (a b : List ℕ) → length a ≡ length b → Comparing a b 0
-same_start a b e = record { within = omega arith; lengths = e; rest = refl }
-
-pub same_step : (a b : List ℕ) (i : ℕ) → Comparing a b i → i < length a → get_or a i 0 ≡ get_or b i 0 → Comparing a b (i + 1)
-same_step a b i s h e = record { within = omega arith; lengths = s.lengths; rest = sym (same_at a b i s h ∙ simp (eq-eqb _ _ e)) }
-
-pub same_stop : (a b : List ℕ) (i : ℕ) → Comparing a b i → i < length a → (get_or a i 0 ≡ get_or b i 0 → ⊥) → false ≡ same a b
-same_stop a b i s h n = sym (same_at a b i s h ∙ simp (ne_eqb _ _ n))
-
-pub same_end : (a b : List ℕ) (i : ℕ) → Comparing a b i → length a ≤ i → true ≡ same a b
-same_end a b i s h =
-    let k : length b ≤ i = omega arith in
-    rw (drop_of_length-le a h, drop_of_length-le b k) at s.rest
-
 -- in_row
-
--- the word, of n bytes, is none of the pieces before i, so the answer is that of the rest
-pub record Searching (w r : List ℕ) (n i : ℕ) : Type 0 where
-  pub size : n ≡ length w
-  pub within : i ≤ length r
-  pub rest : in_row w (drop i r) ≡ in_row w r
 
 piece : (n k : ℕ) (v r : List ℕ) → k < length r → pieces n k v r ≡ (v ++ take k r) ∷ pieces n n [] (drop (suc k) r)
 piece n k v [] h = absurd (not-suc-le-zero h)
@@ -61,35 +37,87 @@ piece n (suc k) v (b ∷ r) h =
     piece n k (v ++ (b ∷ [])) r (le_of_suc-le-suc h)
     ∙ ap (λ (x : List ℕ). x ∷ pieces n n [] (drop (suc k) r)) (append_assoc v (b ∷ []) (take k r))
 
-no_piece : (n k : ℕ) (v r : List ℕ) → length r ≤ k → pieces n k v r ≡ []
-no_piece n k v [] h = refl
-no_piece n zero v (b ∷ r) h = absurd (not-suc-le-zero h)
-no_piece n (suc k) v (b ∷ r) h = no_piece n k (v ++ (b ∷ [])) r (le_of_suc-le-suc h)
-
 row_first : (w r : List ℕ) → length w < length r → in_row w r ≡ same w (take (length w) r) || in_row w (drop (suc (length w)) r)
 row_first w r h = ap (one_of w) (piece (length w) (length w) [] r h)
 
-row_at : (w r : List ℕ) (n i : ℕ) → Searching w r n i → n < length r - i
-    → in_row w r ≡ same w (take (i + n - i) (drop i r)) || in_row w (drop (i + (n + 1)) r)
-row_at w r n i s h =
-    sym s.rest
-    ∙ row_first w (drop i r) (rw (length-drop i r) (omega (arith, s.size)))
-    ∙ rw (add-sub_cancel_left i n, add-one n, s.size, drop-drop (suc (length w)) i r)
+-- the pieces with the byte behind each
+abbrev pub wholes : ℕ → ℕ → List ℕ → List ℕ → List (List ℕ)
+wholes n k v [] = []
+wholes n zero v (b ∷ r) = (v ++ (b ∷ [])) ∷ wholes n n [] r
+wholes n (suc k) v (b ∷ r) = wholes n k (v ++ (b ∷ [])) r
 
-pub search_start : (w r : List ℕ) (n : ℕ) → n ≡ length w → Searching w r n 0
-search_start w r n e = record { size = e; within = omega arith; rest = refl }
+-- a piece without the byte behind it is the word
+abbrev pub own_is : List ℕ → List ℕ → Bool
+own_is w p = cond (leb 1 (length p)) (pointwise eqb w (take (length p - 1) p)) false
 
-pub search_found : (w r : List ℕ) (n i : ℕ) (v : Bool) → Searching w r n i → n < length r - i
-    → v ≡ same w (take (i + n - i) (drop i r)) → v ≡ true → true ≡ in_row w r
-search_found w r n i v s h e f = sym (row_at w r n i s h ∙ simp (sym e ∙ f))
+begun : (w v : List ℕ) (b : ℕ) → length v ≡ length w → own_is w (v ++ (b ∷ [])) ≡ same w v
+begun w v b e =
+    let l : length (v ++ (b ∷ [])) ≡ length v + 1 = length-append v (b ∷ []) in
+    let m : length (v ++ (b ∷ [])) - 1 ≡ length v = omega (arith, l) in
+    rw (le-leb 1 (length (v ++ (b ∷ []))) (omega (arith, l)), m, take_at v (b ∷ []) (length v) refl) (go w v)
+  where
+    go : (x y : List ℕ) → pointwise eqb x y ≡ same x y
+    go [] [] = refl
+    go [] (c ∷ y) = refl
+    go (a ∷ x) [] = refl
+    go (a ∷ x) (c ∷ y) = ap (λ (z : Bool). eqb a c && z) (go x y)
 
-pub search_step : (w r : List ℕ) (n i : ℕ) (v : Bool) → Searching w r n i → n < length r - i
-    → v ≡ same w (take (i + n - i) (drop i r)) → v ≡ false → Searching w r n (i + (n + 1))
-search_step w r n i v s h e f = record { size = s.size; within = omega (arith, s.within); rest = sym (row_at w r n i s h ∙ simp (sym e ∙ f)) }
+pub begins_one : (w : List ℕ) (k : ℕ) (v r : List ℕ) → length v + k ≡ length w
+    → list_any (own_is w) (wholes (length w) k v r) ≡ one_of w (pieces (length w) k v r)
+begins_one w k v [] e = refl
+begins_one w zero v (b ∷ r) e =
+    rw (begun w v b (omega arith)) (ap (λ (x : Bool). same w v || x) (begins_one w (length w) [] r (omega arith)))
+begins_one w (suc k) v (b ∷ r) e = begins_one w k (v ++ (b ∷ [])) r (omega (arith, length-append v (b ∷ [])))
 
-pub search_end : (w r : List ℕ) (n i : ℕ) → Searching w r n i → length r - i ≤ n → false ≡ in_row w r
-search_end w r n i s h =
-    sym (ap (one_of w) (no_piece (length w) (length w) [] (drop i r) (rw (length-drop i r) (omega (arith, s.size))))) ∙ s.rest
+whole : (n k : ℕ) (v r : List ℕ) → k < length r → wholes n k v r ≡ (v ++ take (suc k) r) ∷ wholes n n [] (drop (suc k) r)
+whole n k v [] h = absurd (not-suc-le-zero h)
+whole n zero v (b ∷ r) h = refl
+whole n (suc k) v (b ∷ r) h =
+    whole n k (v ++ (b ∷ [])) r (le_of_suc-le-suc h)
+    ∙ ap (λ (x : List ℕ). x ∷ wholes n n [] (drop (suc k) r)) (append_assoc v (b ∷ []) (take (suc k) r))
+
+no_whole : (n k : ℕ) (v r : List ℕ) → length r ≤ k → wholes n k v r ≡ []
+no_whole n k v [] h = refl
+no_whole n zero v (b ∷ r) h = absurd (not-suc-le-zero h)
+no_whole n (suc k) v (b ∷ r) h = no_whole n k (v ++ (b ∷ [])) r (le_of_suc-le-suc h)
+
+-- they are what `chunks_exact` gives
+abbrev pub Gives : ℕ → ChunksExact ℕ → Type 0
+Gives n s = AlwaysYields chunks_exact_steps (λ x. x.now) s (wholes n n [] (chunks_exact_rest s))
+
+no_chunk : (n : ℕ) (s : ChunksExact ℕ) → chunks_exact_size s ≡ suc n → length (chunks_exact_rest s) ≤ n → Gives n s
+no_chunk n s e h =
+    subst⁻¹ (AlwaysYields chunks_exact_steps (λ x. x.now) s) (no_whole n n [] (chunks_exact_rest s) h)
+    (λ x j k. let a = ap length k.1.0 ∙ length-append x.now (chunks_exact_rest j) in let b = k.1.1 in omega arith)
+
+one_chunk : (n : ℕ) (s : ChunksExact ℕ) → chunks_exact_size s ≡ suc n → n < length (chunks_exact_rest s)
+    → ((j : ChunksExact ℕ) → length (chunks_exact_rest j) < length (chunks_exact_rest s) → chunks_exact_size j ≡ suc n → Gives n j) → Gives n s
+one_chunk n s e h g =
+    subst⁻¹ (AlwaysYields chunks_exact_steps (λ x. x.now) s) (whole n n [] (chunks_exact_rest s) h) (
+      (λ j k. let a = k.1.0 in omega arith),
+      λ x j k.
+          let a = k.1.1 ∙ e in
+          let d = k.1.0 in
+          let f = ap length d ∙ length-append x.now (chunks_exact_rest j) in (
+            sym (ap (take (suc n)) d ∙ take_at x.now (chunks_exact_rest j) (suc n) a),
+            subst⁻¹ (λ (r : List ℕ). AlwaysYields chunks_exact_steps (λ x. x.now) j (wholes n n [] r))
+                (ap (drop (suc n)) d ∙ drop_at x.now (chunks_exact_rest j) (suc n) a) (g j (omega arith) (k.0 ∙ e)),
+          ),
+    )
+
+chunks : (m n : ℕ) (s : ChunksExact ℕ) → length (chunks_exact_rest s) ≤ m → chunks_exact_size s ≡ suc n → Gives n s
+chunks zero n s h e = no_chunk n s e (omega arith)
+chunks (suc m) n s h e = go (leb (length (chunks_exact_rest s)) n) refl (chunks m n)
+  where
+    go : (v : Bool) → leb (length (chunks_exact_rest s)) n ≡ v
+        → ((j : ChunksExact ℕ) → length (chunks_exact_rest j) ≤ m → chunks_exact_size j ≡ suc n → Gives n j) → Gives n s
+    go true g f = no_chunk n s e (leb-true _ _ g)
+    go false g f = one_chunk n s e (leb-false _ _ g) (λ j l. f j (omega arith))
+
+pub chunks_yield : (n : ℕ) (r : List ℕ) (s : ChunksExact ℕ) → chunks_exact_rest s ≡ r → chunks_exact_size s ≡ n + 1
+    → YieldsList chunks_exact_steps (λ x. x.now) s (wholes n n [] r)
+chunks_yield n r s h e =
+    record { runs = subst (λ (l : List ℕ). AlwaysYields chunks_exact_steps (λ x. x.now) s (wholes n n [] l)) h (chunks (length (chunks_exact_rest s)) n s (omega arith) (e ∙ add-one n)) }
 
 -- is_reserved
 
@@ -128,68 +156,22 @@ row_among w (s ∷ ss) = go (eqb (length (bytes s)) (length w)) refl (row_among 
 pub reserved_row : (n : ℕ) (w : List ℕ) (v : Bool) → length w ≡ n → v ≡ in_row w (row_of n reserved_words) → v ≡ is_reserved w
 reserved_row n w v l e = e ∙ ap (λ (k : ℕ). in_row w (row_of k reserved_words)) (sym l) ∙ row_among w reserved_words
 
-pub reserved_long : (w : List ℕ) → 22 ≤ length w → false ≡ is_reserved w
+-- a reserved word has from 1 to 18 bytes, or 21
+pub reserved_other : (w : List ℕ) → (1 ≤ length w → length w ≤ 18 → ⊥) → (length w ≡ 21 → ⊥) → false ≡ is_reserved w
 unfolding reserved_words
-reserved_long w h =
-    sym (never (is_reserved w) (λ t.
-    let k : length w ≤ 21 = leb→le (length w) 21 (among_each (λ x. leb (length x) 21) w reserved_words t tt) in
-    omega arith))
+reserved_other w f g = sym (never (is_reserved w) (λ t. go (either _ _ (among_each (λ x. (leb 1 (length x) && leb (length x) 18) || eqb (length x) 21) w reserved_words t tt))))
+  where
+    go : T (leb 1 (length w) && leb (length w) 18) ⊎ T (eqb (length w) 21) → ⊥
+    go (inl t) = f (leb→le 1 (length w) (and_left (leb 1 (length w)) _ t)) (leb→le (length w) 18 (and_right (leb 1 (length w)) _ t))
+    go (inr t) = g (eqb→eq (length w) 21 t)
 
 -- all_symbol_bytes
 
--- the bytes from the place `left` on are symbol bytes, so the answer is that of those before it
-pub record Passing (w : List ℕ) (left : ℕ) : Type 0 where
-  pub within : left ≤ length w
-  pub rest : all symbol_byte (take left w) ≡ all symbol_byte w
-
-all_last : (p : ℕ → Bool) (w : List ℕ) (b : ℕ) → all p (w ++ (b ∷ [])) ≡ all p w && p b
-all_last p w b = all_append p w (b ∷ []) ∙ ap (λ (v : Bool). all p w && v) (and-true (p b))
-
-all_at : (w : List ℕ) (left : ℕ) → Passing w left → 0 < left → all symbol_byte w ≡ all symbol_byte (take (left - 1) w) && symbol_byte (get_or w (left - 1) 0)
-all_at w left s h =
-    let e : left ≡ suc (left - 1) = omega arith in
-    sym s.rest
-    ∙ ap (λ (n : ℕ). all symbol_byte (take n w)) e
-    ∙ ap (all symbol_byte) (take-suc w (left - 1) 0 (omega (arith, s.within)))
-    ∙ all_last symbol_byte (take (left - 1) w) (get_or w (left - 1) 0)
-
-pub all_start : (w : List ℕ) → Passing w (length w)
-all_start w = record { within = omega arith; rest = ap (all symbol_byte) (take-length w) }
-
-pub all_step : (w : List ℕ) (left : ℕ) (v : Bool) → Passing w left → 0 < left → v ≡ symbol_byte (get_or w (left - 1) 0) → v ≡ true → Passing w (left - 1)
-all_step w left v s h e f = record {
-  within = omega (arith, s.within);
-  rest = sym (all_at w left s h ∙ simp (sym e ∙ f, and-true));
-}
-
-pub all_stop : (w : List ℕ) (left : ℕ) (v : Bool) → Passing w left → 0 < left → v ≡ symbol_byte (get_or w (left - 1) 0) → v ≡ false
-    → false ≡ all symbol_byte w
-all_stop w left v s h e f = sym (all_at w left s h ∙ simp (sym e ∙ f, and-false))
-
-pub all_end : (w : List ℕ) (left : ℕ) → Passing w left → left ≤ 0 → true ≡ all symbol_byte w
-all_end w left s h =
-    let e : 0 ≡ left = omega arith in
-    ap (λ (n : ℕ). all symbol_byte (take n w)) e ∙ s.rest
+pub all_listed : (p : ℕ → Bool) (w : List ℕ) → list_all p w ≡ all p w
+all_listed p [] = refl
+all_listed p (b ∷ w) = ap (λ (x : Bool). p b && x) (all_listed p w)
 
 -- is_symbol_byte
-
-pub byte_high : (b : ℕ) → 127 < b → false ≡ symbol_byte b
-byte_high b h = sym (never (symbol_byte b) (λ t. some_mark (either (letter b) _ t)))
-  where
-    small : (a z : ℕ) → z ≤ 127 → T (leb a b && leb b z) → ⊥
-    small a z k t = let l : b ≤ z = leb→le b z (and_right (leb a b) (leb b z) t) in omega arith
-
-    marks : T (digit b) ⊎ T (any (eqb b) (bytes "~!@$%^&*_-+=<>.?/")) → ⊥
-    marks (inl t) = small 48 57 (omega arith) t
-    marks (inr t) = let l : b ≤ 127 = leb→le b 127 (any_all (λ x. leb x 127) b (bytes "~!@$%^&*_-+=<>.?/") t tt) in omega arith
-
-    letters : T (leb 65 b && leb b 90) ⊎ T (leb 97 b && leb b 122) → ⊥
-    letters (inl t) = small 65 90 (omega arith) t
-    letters (inr t) = small 97 122 (omega arith) t
-
-    some_mark : T (letter b) ⊎ T (digit b || any (eqb b) (bytes "~!@$%^&*_-+=<>.?/")) → ⊥
-    some_mark (inl t) = letters (either (leb 65 b && leb b 90) _ t)
-    some_mark (inr t) = marks (either (digit b) _ t)
 
 -- a place that holds a space is no symbol byte's
 pub byte_low : (places : List ℕ) (b : ℕ) → places ≡ symbol_places → b ≤ 127 → not (eqb (get_or places b 0) 32) ≡ symbol_byte b
@@ -205,25 +187,3 @@ byte_low places b e h =
     go : (v : Bool) → symbol_byte b ≡ v → not (eqb (cond v b 32) 32) ≡ v
     go true f = space (eqb b 32) refl f
     go false f = refl
-
--- is_simple, is_symbol
-
-pub simple_empty : (w : List ℕ) → length w ≡ 0 → false ≡ is_simple w
-simple_empty [] e = refl
-simple_empty (b ∷ w) e = let z : ⊥ = omega arith in absurd z
-
-simple_at : (w : List ℕ) → (length w ≡ 0 → ⊥) → is_simple w ≡ not (digit (get_or w 0 0)) && all symbol_byte w
-simple_at [] n = absurd (n refl)
-simple_at (b ∷ w) n = refl
-
-pub simple_digit : (w : List ℕ) (v : Bool) → (length w ≡ 0 → ⊥) → v ≡ digit (get_or w 0 0) → v ≡ true → false ≡ is_simple w
-simple_digit w v n e f = sym (simple_at w n ∙ simp (sym e ∙ f))
-
-pub simple_rest : (w : List ℕ) (v u : Bool) → (length w ≡ 0 → ⊥) → v ≡ digit (get_or w 0 0) → v ≡ false → u ≡ all symbol_byte w → u ≡ is_simple w
-simple_rest w v u n e f g = g ∙ sym (simple_at w n ∙ simp (sym e ∙ f))
-
-pub symbol_simple : (w : List ℕ) (v u : Bool) → v ≡ is_simple w → v ≡ true → u ≡ is_reserved w → not u ≡ is_symbol w
-symbol_simple w v u e f g = rw (sym e ∙ f, g)
-
-pub symbol_other : (w : List ℕ) (v : Bool) → v ≡ is_simple w → v ≡ false → false ≡ is_symbol w
-symbol_other w v e f = rw (sym e ∙ f)

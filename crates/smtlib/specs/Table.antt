@@ -1,4 +1,4 @@
--- How the code lays out its tables. Contracts of inner functions cite this, and no claim about words or readings rests on it.
+-- How the code lays out its tables. Contracts of inner functions and proofs cite this, and no claim about words or readings rests on it.
 use Rattle.std.specs.Prelude.{Bool, false, cond, ◌||◌, List, [], ◌∷◌, ◌++◌, ℕ, zero, suc, length}
 use Prim.Native.Char.{code}
 use Rattle.smtlib.specs.Lexicon.{same, symbol_byte}

@@ -2,49 +2,33 @@
 // specs/ and proofs/.
 #![tactic(auto)]
 
-ghost use Rattle.std.specs.Prelude.{◌≡◌, ◌<◌};
-ghost use Rattle.smtlib.specs.Lexicon.{all, same, digit, symbol_byte, is_simple, is_reserved, is_symbol};
-ghost use Rattle.smtlib.specs.Table.{symbol_places, in_row};
+ghost use Rattle.std.specs.Prelude.{◌≡◌};
+ghost use Rattle.smtlib.specs.Lexicon.{all, same, symbol_byte, is_simple, is_reserved, is_symbol};
+ghost use Rattle.smtlib.specs.Table.{in_row};
 
 // The bytes of symbols below 128, each at its own place, and a space at every other place.
-const SYMBOL_PLACES: [u8; 128] =
+static SYMBOL_PLACES: [u8; 128] =
     *b"                                 !  $%&   *+ -./0123456789  <=>?@ABCDEFGHIJKLMNOPQRSTUVWXYZ   ^_ abcdefghijklmnopqrstuvwxyz   ~ ";
 
 // Whether bytes are a simple symbol and no reserved word: the names that document 01's refusal 4 lets through.
 pub fn is_symbol(word: &[u8]) -> bool
     ensures { result ≡ is_symbol word.now }
 {
-    if is_simple(word) {
-        return !is_reserved(word);
-    }
-    false
+    is_simple(word) && !is_reserved(word)
 }
 
 // Whether two slices hold the same bytes.
 pub fn same_bytes(a: &[u8], b: &[u8]) -> bool
     ensures { result ≡ same a.now b.now }
 {
-    if a.len() != b.len() {
-        return false;
-    }
-    let mut i: usize = 0;
-    while i < a.len() {
-        if a[i] == b[i] {
-            i += 1;
-        } else {
-            return false;
-        }
-    }
-    true
+    a == b
 }
 
 // Whether bytes are a reserved word. Only the words of its length are compared.
 fn is_reserved(word: &[u8]) -> bool
     ensures { result ≡ is_reserved word.now }
 {
-    let n = word.len();
-    match n {
-        0 => false,
+    match word.len() {
         1 => in_row(b"! _ ", word),
         2 => in_row(b"as ", word),
         3 => in_row(b"let par pop ", word),
@@ -66,10 +50,8 @@ fn is_reserved(word: &[u8]) -> bool
         16 => in_row(b"declare-datatype reset-assertions ", word),
         17 => in_row(b"declare-datatypes ", word),
         18 => in_row(b"check-sat-assuming ", word),
-        19 => false,
-        20 => false,
         21 => in_row(b"get-unsat-assumptions ", word),
-        22.. => false,
+        _ => false,
     }
 }
 
@@ -77,63 +59,28 @@ fn is_reserved(word: &[u8]) -> bool
 fn in_row(row: &[u8], word: &[u8]) -> bool
     ensures { result ≡ in_row word.now row.now }
 {
-    let n = word.len();
-    let mut at: usize = 0;
-    while n < row.len() - at {
-        if same_bytes(word, &row[at..at + n]) {
-            return true;
-        }
-        at += n + 1;
-    }
-    false
+    row.chunks_exact(word.len() + 1)
+        .any(|piece| matches!(piece, [own @ .., _] if word == own))
 }
 
 // Whether bytes are symbol bytes of which the first is no digit.
 fn is_simple(word: &[u8]) -> bool
     ensures { result ≡ is_simple word.now }
 {
-    if word.len() == 0 {
-        return false;
+    match word {
+        [] => false,
+        [first, ..] => !first.is_ascii_digit() && all_symbol_bytes(word),
     }
-    if is_digit(word[0]) {
-        return false;
-    }
-    all_symbol_bytes(word)
 }
 
-fn is_digit(b: u8) -> bool
-    ensures { result ≡ digit b }
-{
-    if b < 48 {
-        return false;
-    }
-    b <= 57
-}
-
-// Whether all bytes are symbol bytes, from the last to the first.
 fn all_symbol_bytes(word: &[u8]) -> bool
     ensures { result ≡ all symbol_byte word.now }
 {
-    let places = SYMBOL_PLACES;
-    let mut left = word.len();
-    while 0 < left {
-        let last = left - 1;
-        if is_symbol_byte(&places, word[last]) {
-            left = last;
-        } else {
-            return false;
-        }
-    }
-    true
+    word.iter().all(|b| is_symbol_byte(*b))
 }
 
-fn is_symbol_byte(places: &[u8; 128], b: u8) -> bool
-    requires { places.now ≡ symbol_places }
+fn is_symbol_byte(b: u8) -> bool
     ensures { result ≡ symbol_byte b }
 {
-    if 127 < b {
-        return false;
-    }
-    let i = b as usize;
-    places[i] != 32
+    b < 128 && SYMBOL_PLACES[b as usize] != b' '
 }

@@ -17,75 +17,64 @@ fn main() {
     try_single_bytes();
 }
 
+// The lines that end in a line feed.
 fn try_lines(text: &[u8]) {
-    let mut start: usize = 0;
-    let mut i: usize = 0;
-    while i < text.len() {
-        if text[i] == b'\n' {
-            try_word(&text[start..i]);
-            start = i + 1;
+    for line in text.split_inclusive(|b| *b == b'\n') {
+        if let Some(word) = line.strip_suffix(b"\n") {
+            try_word(word);
         }
-        i += 1;
     }
 }
 
 // One line: the word and its four answers.
 fn try_word(word: &[u8]) {
     let n = word.len();
-    if n == 0 {
-        return;
-    }
-    if 63 < n {
+    if n == 0 || 63 < n {
         return;
     }
     io::write_all(STDOUT_FILENO, word);
     answer(smtlib::is_symbol(word));
-    let more = copied(word, false);
-    answer(smtlib::is_symbol(&more[..n + 1]));
+    let mut copy = copied(word);
+    answer(smtlib::is_symbol(&copy[..n + 1]));
     answer(smtlib::is_symbol(&word[..n - 1]));
-    let other = copied(word, true);
-    answer(smtlib::is_symbol(&other[..n]));
+    flip(&mut copy);
+    answer(smtlib::is_symbol(&copy[..n]));
     io::write_all(STDOUT_FILENO, b"\n");
 }
 
-// The word, as it is or in the other case, and an `s` behind it.
-fn copied(word: &[u8], flipped: bool) -> [u8; 64]
+// The word, and an `s` at each place behind it.
+fn copied(word: &[u8]) -> [u8; 64]
     requires { length word.now < 64 }
     ensures { length result ≡ 64 }
 {
-    let n = word.len();
-    let mut w = [b's'; 64];
-    let mut i: usize = 0;
-    while i < n {
-        w[i] = cased(word[i], flipped);
-        i += 1;
-    }
-    w
+    let mut copy = [b's'; 64];
+    copy[..word.len()].copy_from_slice(word);
+    copy
 }
 
-fn cased(b: u8, flipped: bool) -> u8 {
-    if !flipped {
-        return b;
+// Puts each letter in the other case.
+fn flip(text: &mut [u8]) {
+    for b in text.iter_mut() {
+        *b = flipped(*b);
     }
+}
+
+fn flipped(b: u8) -> u8 {
     match b {
-        65..=90 => b + 32,
-        97..=122 => b - 32,
+        b'A'..=b'Z' => b + 32,
+        b'a'..=b'z' => b - 32,
         _ => b,
     }
 }
 
 fn answer(yes: bool) {
-    if yes {
-        io::write_all(STDOUT_FILENO, b" yes");
-    } else {
-        io::write_all(STDOUT_FILENO, b" no");
-    }
+    let text: &[u8] = if yes { b" yes" } else { b" no" };
+    io::write_all(STDOUT_FILENO, text);
 }
 
 fn try_empty() {
-    let word = [0u8; 0];
     io::write_all(STDOUT_FILENO, b"(no byte)");
-    answer(smtlib::is_symbol(&word));
+    answer(smtlib::is_symbol(b""));
     io::write_all(STDOUT_FILENO, b"\n");
 }
 
@@ -112,14 +101,12 @@ fn try_single_bytes() {
 // Writes those of the 256 bytes that are a symbol alone, and counts them.
 fn single_symbols() -> u64 {
     let mut found: u64 = 0;
-    let mut b: usize = 0;
-    while b < 256 {
-        let word = [b as u8];
+    for b in 0..=u8::MAX {
+        let word = [b];
         if smtlib::is_symbol(&word) {
             io::write_all(STDOUT_FILENO, &word);
             found += 1;
         }
-        b += 1;
     }
     found
 }

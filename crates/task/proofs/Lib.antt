@@ -1,9 +1,10 @@
+pub mod Faults
 pub mod Reading
 pub mod Numbers
-pub mod Forms
 pub mod Nodes
 pub mod Covering
 pub mod Pieces
+pub mod Behind
 pub mod Judging
 pub mod Texts
 pub mod Items

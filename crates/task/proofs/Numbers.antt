@@ -1,61 +1,54 @@
 -- A number read from its highest byte down: the loop of number_at. And a number of twice as many bytes by its halves.
-use mathlib.Core.Path.{◌≡◌, sym}
-use mathlib.Core.List.{List, [], ◌∷◌}
-use Prim.Native.Nat.{ℕ, zero, suc, ◌+◌, ◌-◌, ◌*◌, ◌^◌, ◌<◌, ◌≤◌}
-use native.Mathlib.Numerals.{sub-one}
+use mathlib.Core.Path.{◌≡◌, refl, sym, ap, ◌∙◌}
+use mathlib.Core.List.{List, [], ◌∷◌, ◌++◌, append-nil, append_assoc}
+use Prim.Native.Nat.{ℕ, zero, suc, ◌+◌, ◌*◌, ◌^◌, ◌<◌, ◌≤◌}
 use native.Mathlib.Nat.{pow-suc, pow-succ', pow-le-pow_right, mul_assoc, zero-add, suc-add}
 use native.Mathlib.Omega.{arith}
-use lib.ListN.{length, take, drop, get_or, length-drop}
-use lib.Seq.{drop-cons, drop-drop}
-use Rattle.task.specs.declared.Number.TheVariants as number_is
-use Rattle.task.specs.Decode.{got, refuse, little, number}
-use Rattle.task.specs.Node.{number_of}
-use Rattle.task.proofs.Reading.{number_fits, number_short, number_got, number_refused}
+use lib.ListN.{length, take, drop, length-append, length-drop}
+use lib.Seq.{drop-drop}
+use Rattle.std.proofs.Common.{length-take-le}
+use Rattle.task.specs.Decode.{got, refuse, little, raw, number}
+use Rattle.task.proofs.Reading.{raw_got, number_fits, number_short, number_got, number_refused}
 
--- the bytes from i up to at + k have been taken
-pub record Taken (s : List ℕ) (at k i v : ℕ) : Type 0 where
-  pub low : at ≤ i
-  pub high : i ≤ at + k
-  pub value : v ≡ little (take (at + k - i) (drop i s))
-  pub small : v < 256 ^ (at + k - i)
+-- of the bytes w those before r's end are left, and v is the number in the others
+pub record Taken (w r : List ℕ) (v : ℕ) : Type 0 where
+  pub taken : List ℕ
+  pub whole : w ≡ r ++ taken
+  pub short : length w ≤ 8
+  pub value : v ≡ little taken
+  pub small : v < 256 ^ length taken
 
-pub taken_start : (s : List ℕ) (at k : ℕ) → Taken s at k (at + k) 0
-taken_start s at k =
-    let e : at + k - (at + k) ≡ 0 = omega arith in
-    record { low = omega arith; high = omega arith; value = rw e; small = rw e (omega arith) }
+pub taken_start : (k : ℕ) (s : List ℕ) (at p : ℕ) (w v : List ℕ) → raw k s at ≡ got w p → k ≤ 8 → v ≡ w → Taken v v 0
+taken_start k s at p w v h l e =
+    let f = raw_got k s at w p h in
+    let d : k ≤ length (drop at s) = rw (length-drop at s) (omega (arith, f.fits)) in
+    let m : length v ≡ k = ap length (e ∙ f.are) ∙ length-take-le k (drop at s) d in
+    record { taken = []; whole = sym (append-nil v); short = omega arith; value = refl; small = omega arith }
 
 -- one byte more leaves room in 64 bits
-pub taken_room : (s : List ℕ) (at k i v : ℕ) → Taken s at k i v → at < i → k ≤ 8 → v * 256 + 255 < 2 ^ 64
-taken_room s at k i v t h g =
-    let m = at + k - i in
-    let p : 256 ^ m ≤ 256 ^ 7 = pow-le-pow_right {n = 256} (omega arith) {i = m} {j = 7} (let l = t.low in omega arith) in
-    let q = t.small in
+pub taken_room : (w r q : List ℕ) (v b : ℕ) → Taken w r v → r ≡ q ++ (b ∷ []) → v * 256 + 255 < 2 ^ 64
+taken_room w r q v b t e =
+    let m = length t.taken in
+    let l : length w ≡ length r + m = rw t.whole (length-append r t.taken) in
+    let k : length r ≡ length q + 1 = rw e (length-append q (b ∷ [])) in
+    let p : 256 ^ m ≤ 256 ^ 7 = pow-le-pow_right {n = 256} (omega arith) {i = m} {j = 7} (let h = t.short in omega arith) in
+    let z = t.small in
     omega arith
 
-pub taken_step : (s : List ℕ) (at k i v b : ℕ) → Taken s at k i v → at < i → at + k ≤ length s → b ≡ get_or s (i - 1) 0 → b < 256
-    → Taken s at k (i - 1) (v * 256 + b)
-taken_step s at k zero v b t h g e l = absurd (omega arith)
-taken_step s at k (suc i) v b t h g e l =
-    let u : suc i ≤ at + k = t.high in
-    let m : at + k - i ≡ suc (at + k - suc i) = omega arith in
-    let q = t.value in
+pub taken_step : (w r q : List ℕ) (v b n : ℕ) → Taken w r v → r ≡ q ++ (b ∷ []) → n ≡ b → n < 256 → Taken w q (v * 256 + n)
+taken_step w r q v b n t e f l =
     let z = t.small in
-    let d : take (at + k - i) (drop i s) ≡ get_or s i 0 ∷ take (at + k - suc i) (drop (suc i) s) = rw (m, drop-cons s i 0 (omega arith)) in
-    let w : get_or s i 0 ≡ b = sym (rw (sub-one (suc i)) at e) in
-    rw (sub-one (suc i)) (record {
-      low = omega arith;
-      high = omega arith;
-      value = rw (d, w, ← q) (omega arith);
-      small = rw (m, pow-suc 256 (at + k - suc i)) (omega arith);
-    })
+    record {
+      taken = b ∷ t.taken;
+      whole = t.whole ∙ rw e (append_assoc q (b ∷ []) t.taken);
+      short = t.short;
+      value = rw (← t.value) (omega arith);
+      small = rw (pow-suc 256 (length t.taken)) (omega arith);
+    }
 
-pub taken_end : (s : List ℕ) (at k i v : ℕ) → Taken s at k i v → i ≤ at → at + k ≤ length s → number k s at ≡ number_of (number_is.Value v (at + k))
-taken_end s at k i v t h g =
-    let l = t.low in
-    let e : i ≡ at = omega arith in
-    let m : at + k - at ≡ k = omega arith in
-    let q : v ≡ little (take k (drop at s)) = rw (e, m) at t.value in
-    rw (number_fits k s at g, q)
+pub taken_end : (k : ℕ) (s : List ℕ) (at p : ℕ) (w v r : List ℕ) (n : ℕ) → raw k s at ≡ got w p → v ≡ w → Taken v r n → length r ≡ 0 → number k s at ≡ got n p
+taken_end k s at p w v [] n h e t l = rw (h, t.value, ← e, t.whole)
+taken_end k s at p w v (b ∷ r) n h e t l = absurd (omega (arith, l))
 
 -- the low bytes and the high ones
 pub little_split : (m n : ℕ) (xs : List ℕ) → m ≤ length xs → little (take (m + n) xs) ≡ little (take m xs) + 256 ^ m * little (take n (drop m xs))
@@ -79,12 +72,14 @@ module _ (s : List ℕ) (at : ℕ) where
       let u : drop 8 (drop at s) ≡ drop p s = rw (drop-drop 8 at s, a) in
       rw (number_fits 16 s at c, b, v, u, ← g.value, ← h.value)
 
-  pub low_short : number 8 s at ≡ refuse 2 → number 16 s at ≡ refuse 2
-  low_short e = let h = number_refused 8 s at 2 e in number_short 16 s at (omega arith)
+  pub low_short : (k : ℕ) → number 8 s at ≡ refuse k → number 16 s at ≡ refuse k
+  low_short k e =
+      let h = number_refused 8 s at k e in
+      number_short 16 s at (omega arith) ∙ sym (number_short 8 s at h) ∙ e
 
-  pub high_short : (lo p : ℕ) → number 8 s at ≡ got lo p → number 8 s p ≡ refuse 2 → number 16 s at ≡ refuse 2
-  high_short lo p e f =
+  pub high_short : (lo p k : ℕ) → number 8 s at ≡ got lo p → number 8 s p ≡ refuse k → number 16 s at ≡ refuse k
+  high_short lo p k e f =
       let g = number_got 8 s at lo p e in
       let a = g.end in
-      let h = number_refused 8 s p 2 f in
-      number_short 16 s at (omega arith)
+      let h = number_refused 8 s p k f in
+      number_short 16 s at (omega arith) ∙ sym (number_short 8 s p h) ∙ f

@@ -1,13 +1,13 @@
 -- Laws of the decoders' primitives, with premises in the form in which the code's tests give them.
 use mathlib.Core.Path.{◌≡◌, refl, sym, ap, ◌∙◌}
 use mathlib.Core.Logic.{◌⊎◌, inl, inr, ⊎_elim}
-use mathlib.Core.List.{List, []}
+use mathlib.Core.List.{List}
 use mathlib.Core.Bool.{Bool, true, false}
-use Prim.Native.Nat.{ℕ, ◌+◌, ◌-◌, ◌<◌, ◌≤◌}
+use Prim.Native.Nat.{ℕ, ◌+◌, ◌<◌, ◌≤◌}
 use native.Mathlib.Omega.{arith}
 use lib.Dec.{leb}
-use lib.ListN.{length, take, drop, get_or, get_or-eq_default, length-drop, drop_of_length-le}
-use lib.Seq.{drop-cons, take-nil, take_all}
+use lib.ListN.{length, take, drop, get_or, get_or-eq_default}
+use lib.Seq.{drop-cons}
 use borrow.Author.Tests.{le-leb, lt-leb, leb-true, leb-false}
 use Rattle.task.specs.Decode.{Res, got, refuse, Decoder, refusal, bind, raw, little, number, coded}
 
@@ -109,16 +109,3 @@ module _ {A : Type 0} (ds : List (Decoder A)) (s : List ℕ) (at : ℕ) where
 
   pub coded_beyond : at < length s → length ds ≤ get_or s at 0 → coded ds s at ≡ refuse 2
   coded_beyond h l = coded_at (get_or s at 0) h refl ∙ ap (λ (d : Decoder A). d s (at + 1)) (get_or-eq_default ds (refusal 2) {n = get_or s at 0} l)
-
--- a part of a section, where it passes the end or not
-module _ (s : List ℕ) (at n : ℕ) where
-  pub part_none : length s ≤ at → [] ≡ take n (drop at s)
-  part_none h = rw (drop_of_length-le s h, take-nil n)
-
-  pub part_cut : at < length s → length s - at < n → take (length s - at) (drop at s) ≡ take n (drop at s)
-  part_cut h g =
-      let l : length (drop at s) ≡ length s - at = length-drop at s in
-      take_all (length s - at) (drop at s) (omega arith) ∙ sym (take_all n (drop at s) (omega arith))
-
-  pub part_whole : take (at + n - at) (drop at s) ≡ take n (drop at s)
-  part_whole = let e : at + n - at ≡ n = omega arith in rw e

@@ -1,9 +1,10 @@
 // The tree of a task as the file has it: reading numbers, names and nodes at a position.
 #![tactic(auto)]
 
-ghost use Rattle.std.specs.Prelude.{◌≡◌, ◌<◌, ◌≤◌};
-ghost use Rattle.task.specs.Decode.{raw, number, name, text, flag, coded, bin_ops, bin_rels, thy_funcs, extends, quantifiers};
-ghost use Rattle.task.specs.Node.{number_of, halves_of, bytes_of, span_of, flag_of, bin_op_of, bin_rel_of, thy_func_of, quantifier_of, sort_code, sort_width, named_code, connective_code, flagged_code, SortForm, SortAt, ExprForm, ExprAt, PredForm, PredAt, ConstraintForm, ConstraintAt};
+ghost use Rattle.std.specs.Prelude.{◌≡◌, ◌≤◌, List, get_or};
+ghost use Rattle.task.specs.Decode.{Decoder, refusal, raw, number, name, text, coded, flags, bin_ops, bin_rels, thy_funcs, extends, quantifiers};
+ghost use Rattle.task.specs.Fault.{lower};
+ghost use Rattle.task.specs.Node.{number_of, read_of, halves_of, text_of, SortForm, SortAt, ExprForm, ExprAt, PredForm, PredAt, ConstraintAt};
 
 // The theory functions, in the source's order of declaration; a function's place is its code.
 #[derive(Clone, Copy)]
@@ -84,700 +85,446 @@ pub enum Quantifier {
 }
 
 // What is refused of a task that decodes, in the order in which it is judged; `Sound` is no fault.
-#[derive(Clone, Copy)]
+#[derive(Clone, Copy, PartialEq, Eq, PartialOrd, Ord, Debug)]
 pub enum Fault {
-    Text,
-    NoConstructors,
-    BitVecWidth,
-    Unqualified,
-    WKVar,
-    Arity,
-    Shadowed,
-    Clash,
-    Unknown,
-    Arguments,
+    Text, // a name is no symbol, or a text has a byte that may not stand there
+    NoConstructors, // a datatype has no constructors
+    BitVecWidth, // BitVec of something other than BvSize, or BvSize elsewhere
+    Unqualified, // SetEmpty or MapDefault that is no head with an output sort
+    WKVar, // an expression of the kind that the source does not write
+    Arity, // a body has another number of argument names than inputs
+    Shadowed, // a ForAll is named like one around it
+    Clash, // a ForAll is named like a KVar, constructor, field, constant or function
+    Unknown, // a name is not declared
+    Arguments, // a KVar has another number of arguments than sorts
     Sound,
 }
 
-// A part of the section.
-#[derive(Clone, Copy)]
-pub struct Span {
-    pub at: usize,
-    pub len: usize,
+impl Fault {
+    // Of two faults the one that is judged first.
+    #[tactic(auto, using(crate::proofs::Faults::min_is_lower))]
+    pub fn lower(self, other: Fault) -> Fault
+        ensures { result ≡ lower self other }
+    {
+        self.min(other)
+    }
 }
 
-// A number and the position behind it.
-#[derive(Clone, Copy)]
-pub enum Number {
-    Value(u64, usize),
-    Refused,
+// Why a file or a call is refused. The number of each is what callers outside see.
+#[derive(Clone, Copy, PartialEq, Eq, Debug)]
+pub enum Refusal {
+    Trailer = 1,
+    Piece = 2,
+    Level = 3,
+    Text = 4,
+    NoConstructors = 5,
+    Arity = 6,
+    Shadowed = 7,
+    Part = 8,
+    Room = 9,
+    Unknown = 10,
+    Arguments = 11,
+    BitVecWidth = 12,
+    Unqualified = 13,
+    WKVar = 14,
+    Clash = 15,
 }
 
-// A number of 16 bytes in two halves, the low one first, and the position behind it.
-#[derive(Clone, Copy)]
-pub enum Halves {
-    Value(u64, u64, usize),
-    Refused,
+// The number of a refusal.
+impl From<Refusal> for u8 {
+    ghost from_gives = { λ refusal n. n ≡ number_of refusal };
+
+    fn from(refusal: Refusal) -> u8 {
+        refusal as u8
+    }
 }
 
-// A name's or a text's bytes and the position behind them.
+// What stands at a position with the position behind it, or why it is refused.
+pub type Read<T> = Result<(T, usize), Refusal>;
+
+// The node of a sort: what stands in front of the sorts in it.
 #[derive(Clone, Copy)]
-pub enum SpanRead {
-    At(Span, usize),
-    Refused,
+pub enum SortNode<'a> {
+    Int,
+    Bool,
+    Real,
+    Str,
+    BitVec,
+    BvSize(u64),
+    Var(u64),
+    Func,
+    Abs(u64),
+    Set(u64),
+    Map(u64),
+    Data(&'a [u8], u64),
 }
 
-// The node of a sort, with the position behind what was read of it.
+// The node of an expression: what stands in front of the expressions in it. A number of 16 bytes is two halves, the low one first.
 #[derive(Clone, Copy)]
-pub enum SortNode {
-    Int(usize),
-    Bool(usize),
-    Real(usize),
-    Str(usize),
-    BitVec(usize),
-    BvSize(u64, usize),
-    Var(u64, usize),
-    Func(usize),
-    Abs(u64, usize),
-    Set(u64, usize),
-    Map(u64, usize),
-    Data(Span, u64, usize),
-    Refused,
-}
-
-// The sorts that have a number behind their code: a width, a variable's number, a number of variables, or a count.
-#[derive(Clone, Copy)]
-pub enum NumberedSort {
-    BvSize,
-    Var,
-    Abs,
-    Set,
-    Map,
-}
-
-// The expressions that have a name behind their code.
-#[derive(Clone, Copy)]
-pub enum NamedExpr {
-    Var,
-    Let,
-    IsCtor,
-}
-
-#[derive(Clone, Copy)]
-pub enum FlagRead {
-    Flag(bool, usize),
-    Refused,
-}
-
-#[derive(Clone, Copy)]
-pub enum BinOpRead {
-    Op(BinOp, usize),
-    Refused,
-}
-
-#[derive(Clone, Copy)]
-pub enum BinRelRead {
-    Rel(BinRel, usize),
-    Refused,
-}
-
-#[derive(Clone, Copy)]
-pub enum ThyRead {
-    Func(ThyFunc, usize),
-    Refused,
+pub enum ExprNode<'a> {
+    Numeral(u64, u64),
+    Boolean(bool),
+    Real(u64),
+    String(&'a [u8]),
+    BitVec(u64, u64, u64),
+    Var(&'a [u8]),
+    WKVar,
+    Neg,
+    Not,
+    BinaryOp(BinOp),
+    Atom(BinRel),
+    Imp,
+    Iff,
+    And(u64),
+    Or(u64),
+    IfThenElse,
+    Let(&'a [u8]),
+    App(bool),
+    ThyFunc(ThyFunc),
+    IsCtor(&'a [u8]),
+    Quantifier(Quantifier, u64),
 }
 
 #[derive(Clone, Copy)]
-pub enum QuantifierRead {
-    Is(Quantifier, usize),
-    Refused,
-}
-
-// The node of an expression, with the position behind what was read of it. A number of 16 bytes is two halves, the low one first.
-#[derive(Clone, Copy)]
-pub enum ExprNode {
-    Numeral(u64, u64, usize),
-    Boolean(bool, usize),
-    Real(u64, usize),
-    String(Span, usize),
-    BitVec(u64, u64, u64, usize),
-    Var(Span, usize),
-    WKVar(usize),
-    Neg(usize),
-    Not(usize),
-    BinaryOp(BinOp, usize),
-    Atom(BinRel, usize),
-    Imp(usize),
-    Iff(usize),
-    And(u64, usize),
-    Or(u64, usize),
-    IfThenElse(usize),
-    Let(Span, usize),
-    App(bool, usize),
-    ThyFunc(ThyFunc, usize),
-    IsCtor(Span, usize),
-    Quantifier(Quantifier, u64, usize),
-    Refused,
-}
-
-#[derive(Clone, Copy)]
-pub enum PredNode {
-    KVar(Span, u64, usize),
-    Expr(usize),
-    Refused,
+pub enum PredNode<'a> {
+    KVar(&'a [u8], u64),
+    Expr,
 }
 
 #[derive(Clone, Copy)]
 pub enum ConstraintNode {
-    Pred(usize),
-    Conj(u64, usize),
-    ForAll(usize),
-    Refused,
+    Pred,
+    Conj(u64),
+    ForAll,
 }
 
-fn wide(x: u8) -> u64
-    ensures { (result ≡ x) × (result < 256) }
-{
-    x as u64
-}
+// What has a code: the byte in front tells which it is.
+pub trait Coded: Sized {
+    // what is read behind each code; the codes count from 0
+    ghost codes: { List (Decoder Self) };
 
-// The number in k bytes, the low one first.
-pub fn number_at(s: &[u8], at: usize, k: usize) -> Number
-    requires { k ≤ 8 }
-    ensures { number k s.now at ≡ number_of result }
-{
-    if s.len() < k {
-        return Number::Refused;
-    }
-    if s.len() - k < at {
-        return Number::Refused;
-    }
-    let end = at + k;
-    let mut i = end;
-    let mut value: u64 = 0;
-    while at < i {
-        i -= 1;
-        value = value * 256 + wide(s[i]);
-    }
-    Number::Value(value, end)
-}
-
-// The number in 16 bytes, the low one first.
-pub fn halves_at(s: &[u8], at: usize) -> Halves
-    ensures { number 16 s.now at ≡ halves_of result }
-{
-    let low = number_at(s, at, 8);
-    let Number::Value(lo, p) = low else {
-        return Halves::Refused;
-    };
-    let high = number_at(s, p, 8);
-    let Number::Value(hi, q) = high else {
-        return Halves::Refused;
-    };
-    Halves::Value(lo, hi, q)
+    // What has the code, with what of it stands behind the code.
+    fn behind(s: &[u8], at: usize, code: u8) -> Read<Self>
+        ensures { get_or codes code (refusal 2) s.now at ≡ read_of result };
 }
 
 // The n bytes at a position.
-fn span_at(s: &[u8], at: usize, n: usize) -> SpanRead
-    ensures { raw n s.now at ≡ span_of s.now result }
+#[tactic(auto, using(crate::proofs::Reading::raw_fits, crate::proofs::Reading::raw_short))]
+fn bytes_at(s: &[u8], at: usize, n: usize) -> Read<&[u8]>
+    ensures { raw n s.now at ≡ text_of result }
 {
-    if s.len() < n {
-        return SpanRead::Refused;
+    let end = at.checked_add(n).ok_or(Refusal::Piece)?;
+    if s.len() < end {
+        return Err(Refusal::Piece);
     }
-    if s.len() - n < at {
-        return SpanRead::Refused;
-    }
-    SpanRead::At(Span { at, len: n }, at + n)
+    Ok((&s[at..end], end))
 }
 
-// The bytes of a part, as far as the section has them.
-pub fn bytes_of(s: &[u8], x: Span) -> &[u8]
-    ensures { result.now ≡ bytes_of s.now x }
+// The byte at a position.
+#[tactic(auto, using(crate::proofs::Reading::byte_fits, crate::proofs::Reading::byte_short))]
+fn byte_at(s: &[u8], at: usize) -> Read<u8>
+    ensures { number 1 s.now at ≡ read_of result }
 {
-    let start = x.at;
-    let n = x.len;
-    if s.len() <= start {
-        return &s[..0];
+    let byte = *s.get(at).ok_or(Refusal::Piece)?;
+    Ok((byte, at + 1))
+}
+
+// The number in k bytes, the low one first.
+pub fn number_at(s: &[u8], at: usize, k: usize) -> Read<u64>
+    requires { k ≤ 8 }
+    ensures { number k s.now at ≡ read_of result }
+{
+    let (bytes, end) = bytes_at(s, at, k)?;
+    let mut value: u64 = 0;
+    for b in bytes.iter().rev() {
+        value = value * 256 + u64::from(*b);
     }
-    if s.len() - start < n {
-        return &s[start..];
-    }
-    let end = start + n;
-    &s[start..end]
+    Ok((value, end))
+}
+
+// The number in 16 bytes, the low one first.
+#[tactic(auto, using(crate::proofs::Numbers::halves, crate::proofs::Numbers::low_short, crate::proofs::Numbers::high_short))]
+pub fn halves_at(s: &[u8], at: usize) -> Read<(u64, u64)>
+    ensures { number 16 s.now at ≡ halves_of result }
+{
+    let (lo, p) = number_at(s, at, 8)?;
+    let (hi, q) = number_at(s, p, 8)?;
+    Ok(((lo, hi), q))
 }
 
 // A name.
-pub fn read_name(s: &[u8], at: usize) -> SpanRead
-    ensures { name s.now at ≡ span_of s.now result }
+pub fn read_name(s: &[u8], at: usize) -> Read<&[u8]>
+    ensures { name s.now at ≡ text_of result }
 {
-    let length = number_at(s, at, 1);
-    let Number::Value(n, p) = length else {
-        return SpanRead::Refused;
-    };
+    let (n, p) = number_at(s, at, 1)?;
     if n == 0 {
-        return SpanRead::Refused;
+        return Err(Refusal::Piece);
     }
-    span_at(s, p, n as usize)
+    bytes_at(s, p, n as usize)
 }
 
 // A text: a comment, or what stands in a string.
-pub fn read_text(s: &[u8], at: usize) -> SpanRead
-    ensures { text s.now at ≡ span_of s.now result }
+pub fn read_text(s: &[u8], at: usize) -> Read<&[u8]>
+    ensures { text s.now at ≡ text_of result }
 {
-    let length = number_at(s, at, 2);
-    let Number::Value(n, p) = length else {
-        return SpanRead::Refused;
-    };
-    span_at(s, p, n as usize)
+    let (n, p) = number_at(s, at, 2)?;
+    bytes_at(s, p, n as usize)
 }
 
-// A byte that is 0 or 1.
-pub fn read_flag(s: &[u8], at: usize) -> FlagRead
-    ensures { flag s.now at ≡ flag_of result }
+// What has a code at a position.
+pub fn read_coded<T: Coded>(s: &[u8], at: usize) -> Read<T>
+    ensures { coded T.codes s.now at ≡ read_of result }
 {
-    if s.len() <= at {
-        return FlagRead::Refused;
-    }
-    let code = s[at];
-    let p = at + 1;
-    match code {
-        0 => FlagRead::Flag(false, p),
-        1 => FlagRead::Flag(true, p),
-        2..=255 => FlagRead::Refused,
-    }
+    let (code, p) = byte_at(s, at)?;
+    T::behind(s, p, code)
 }
 
-// The code of a BinaryOp.
-pub fn read_bin_op(s: &[u8], at: usize) -> BinOpRead
-    ensures { coded bin_ops s.now at ≡ bin_op_of result }
-{
-    if s.len() <= at {
-        return BinOpRead::Refused;
-    }
-    let code = s[at];
-    let p = at + 1;
-    match code {
-        0 => BinOpRead::Op(BinOp::Add, p),
-        1 => BinOpRead::Op(BinOp::Sub, p),
-        2 => BinOpRead::Op(BinOp::Mul, p),
-        3 => BinOpRead::Op(BinOp::Div, p),
-        4 => BinOpRead::Op(BinOp::Mod, p),
-        5..=255 => BinOpRead::Refused,
+impl Coded for bool {
+    ghost codes = { flags };
+
+    fn behind(_s: &[u8], at: usize, code: u8) -> Read<bool> {
+        match code {
+            0 => Ok((false, at)),
+            1 => Ok((true, at)),
+            2..=255 => Err(Refusal::Piece),
+        }
     }
 }
 
-// The code of an Atom.
-pub fn read_bin_rel(s: &[u8], at: usize) -> BinRelRead
-    ensures { coded bin_rels s.now at ≡ bin_rel_of result }
-{
-    if s.len() <= at {
-        return BinRelRead::Refused;
+impl Coded for BinOp {
+    ghost codes = { bin_ops };
+
+    #[tactic(auto, unfolding(crate::specs::Decode::bin_ops))]
+    fn behind(_s: &[u8], at: usize, code: u8) -> Read<BinOp> {
+        match code {
+            0 => Ok((BinOp::Add, at)),
+            1 => Ok((BinOp::Sub, at)),
+            2 => Ok((BinOp::Mul, at)),
+            3 => Ok((BinOp::Div, at)),
+            4 => Ok((BinOp::Mod, at)),
+            5..=255 => Err(Refusal::Piece),
+        }
     }
-    let code = s[at];
-    let p = at + 1;
-    match code {
-        0 => BinRelRead::Rel(BinRel::Eq, p),
-        1 => BinRelRead::Rel(BinRel::Ne, p),
-        2 => BinRelRead::Rel(BinRel::Gt, p),
-        3 => BinRelRead::Rel(BinRel::Ge, p),
-        4 => BinRelRead::Rel(BinRel::Lt, p),
-        5 => BinRelRead::Rel(BinRel::Le, p),
-        6..=255 => BinRelRead::Refused,
+}
+
+impl Coded for BinRel {
+    ghost codes = { bin_rels };
+
+    #[tactic(auto, unfolding(crate::specs::Decode::bin_rels))]
+    fn behind(_s: &[u8], at: usize, code: u8) -> Read<BinRel> {
+        match code {
+            0 => Ok((BinRel::Eq, at)),
+            1 => Ok((BinRel::Ne, at)),
+            2 => Ok((BinRel::Gt, at)),
+            3 => Ok((BinRel::Ge, at)),
+            4 => Ok((BinRel::Lt, at)),
+            5 => Ok((BinRel::Le, at)),
+            6..=255 => Err(Refusal::Piece),
+        }
     }
 }
 
 // The width that stands behind the code of an extend function.
-fn extend(s: &[u8], at: usize, signed: bool) -> ThyRead
-    ensures { extends signed s.now at ≡ thy_func_of result }
+fn extend(s: &[u8], at: usize, signed: bool) -> Read<ThyFunc>
+    ensures { extends signed s.now at ≡ read_of result }
 {
-    if s.len() <= at {
-        return ThyRead::Refused;
-    }
-    let width = s[at];
+    let (width, p) = byte_at(s, at)?;
     if signed {
-        return ThyRead::Func(ThyFunc::BvSignExtend(width), at + 1);
+        return Ok((ThyFunc::BvSignExtend(width), p));
     }
-    ThyRead::Func(ThyFunc::BvZeroExtend(width), at + 1)
+    Ok((ThyFunc::BvZeroExtend(width), p))
 }
 
-// The code of a theory function.
-pub fn read_thy_func(s: &[u8], at: usize) -> ThyRead
-    ensures { coded thy_funcs s.now at ≡ thy_func_of result }
-{
-    if s.len() <= at {
-        return ThyRead::Refused;
-    }
-    let code = s[at];
-    let p = at + 1;
-    match code {
-        0 => ThyRead::Func(ThyFunc::StrLen, p),
-        1 => ThyRead::Func(ThyFunc::StrConcat, p),
-        2 => ThyRead::Func(ThyFunc::StrPrefixOf, p),
-        3 => ThyRead::Func(ThyFunc::StrSuffixOf, p),
-        4 => ThyRead::Func(ThyFunc::StrContains, p),
-        5 => extend(s, p, false),
-        6 => extend(s, p, true),
-        7 => ThyRead::Func(ThyFunc::IntToBv8, p),
-        8 => ThyRead::Func(ThyFunc::Bv8ToInt, p),
-        9 => ThyRead::Func(ThyFunc::IntToBv32, p),
-        10 => ThyRead::Func(ThyFunc::Bv32ToInt, p),
-        11 => ThyRead::Func(ThyFunc::IntToBv64, p),
-        12 => ThyRead::Func(ThyFunc::Bv64ToInt, p),
-        13 => ThyRead::Func(ThyFunc::IntToBv128, p),
-        14 => ThyRead::Func(ThyFunc::Bv128ToInt, p),
-        15 => ThyRead::Func(ThyFunc::BvUle, p),
-        16 => ThyRead::Func(ThyFunc::BvSle, p),
-        17 => ThyRead::Func(ThyFunc::BvUge, p),
-        18 => ThyRead::Func(ThyFunc::BvSge, p),
-        19 => ThyRead::Func(ThyFunc::BvUdiv, p),
-        20 => ThyRead::Func(ThyFunc::BvSdiv, p),
-        21 => ThyRead::Func(ThyFunc::BvSrem, p),
-        22 => ThyRead::Func(ThyFunc::BvUrem, p),
-        23 => ThyRead::Func(ThyFunc::BvLshr, p),
-        24 => ThyRead::Func(ThyFunc::BvAshr, p),
-        25 => ThyRead::Func(ThyFunc::BvAnd, p),
-        26 => ThyRead::Func(ThyFunc::BvOr, p),
-        27 => ThyRead::Func(ThyFunc::BvXor, p),
-        28 => ThyRead::Func(ThyFunc::BvNot, p),
-        29 => ThyRead::Func(ThyFunc::BvAdd, p),
-        30 => ThyRead::Func(ThyFunc::BvNeg, p),
-        31 => ThyRead::Func(ThyFunc::BvSub, p),
-        32 => ThyRead::Func(ThyFunc::BvMul, p),
-        33 => ThyRead::Func(ThyFunc::BvShl, p),
-        34 => ThyRead::Func(ThyFunc::BvUgt, p),
-        35 => ThyRead::Func(ThyFunc::BvSgt, p),
-        36 => ThyRead::Func(ThyFunc::BvUlt, p),
-        37 => ThyRead::Func(ThyFunc::BvSlt, p),
-        38 => ThyRead::Func(ThyFunc::SetEmpty, p),
-        39 => ThyRead::Func(ThyFunc::SetSng, p),
-        40 => ThyRead::Func(ThyFunc::SetCup, p),
-        41 => ThyRead::Func(ThyFunc::SetCap, p),
-        42 => ThyRead::Func(ThyFunc::SetDif, p),
-        43 => ThyRead::Func(ThyFunc::SetSub, p),
-        44 => ThyRead::Func(ThyFunc::SetMem, p),
-        45 => ThyRead::Func(ThyFunc::MapDefault, p),
-        46 => ThyRead::Func(ThyFunc::MapSelect, p),
-        47 => ThyRead::Func(ThyFunc::MapStore, p),
-        48..=255 => ThyRead::Refused,
-    }
-}
+impl Coded for ThyFunc {
+    ghost codes = { thy_funcs };
 
-// A sort's node that has a number behind its code.
-fn numbered_sort(s: &[u8], at: usize, kind: NumberedSort) -> SortNode
-    ensures { SortForm (sort_code kind) s.now at result }
-{
-    let number = number_at(s, at, sort_width(kind));
-    let Number::Value(n, p) = number else {
-        return SortNode::Refused;
-    };
-    match kind {
-        NumberedSort::BvSize => SortNode::BvSize(n, p),
-        NumberedSort::Var => SortNode::Var(n, p),
-        NumberedSort::Abs => SortNode::Abs(n, p),
-        NumberedSort::Set => SortNode::Set(n, p),
-        NumberedSort::Map => SortNode::Map(n, p),
-    }
-}
-
-// How many bytes the number has.
-fn sort_width(kind: NumberedSort) -> usize
-    ensures { (result ≡ sort_width kind) × (result ≤ 8) }
-{
-    match kind {
-        NumberedSort::BvSize => 4,
-        NumberedSort::Var => 2,
-        NumberedSort::Abs => 2,
-        NumberedSort::Set => 2,
-        NumberedSort::Map => 2,
+    #[tactic(auto, unfolding(crate::specs::Decode::thy_funcs))]
+    fn behind(s: &[u8], at: usize, code: u8) -> Read<ThyFunc> {
+        match code {
+            0 => Ok((ThyFunc::StrLen, at)),
+            1 => Ok((ThyFunc::StrConcat, at)),
+            2 => Ok((ThyFunc::StrPrefixOf, at)),
+            3 => Ok((ThyFunc::StrSuffixOf, at)),
+            4 => Ok((ThyFunc::StrContains, at)),
+            5 => extend(s, at, false),
+            6 => extend(s, at, true),
+            7 => Ok((ThyFunc::IntToBv8, at)),
+            8 => Ok((ThyFunc::Bv8ToInt, at)),
+            9 => Ok((ThyFunc::IntToBv32, at)),
+            10 => Ok((ThyFunc::Bv32ToInt, at)),
+            11 => Ok((ThyFunc::IntToBv64, at)),
+            12 => Ok((ThyFunc::Bv64ToInt, at)),
+            13 => Ok((ThyFunc::IntToBv128, at)),
+            14 => Ok((ThyFunc::Bv128ToInt, at)),
+            15 => Ok((ThyFunc::BvUle, at)),
+            16 => Ok((ThyFunc::BvSle, at)),
+            17 => Ok((ThyFunc::BvUge, at)),
+            18 => Ok((ThyFunc::BvSge, at)),
+            19 => Ok((ThyFunc::BvUdiv, at)),
+            20 => Ok((ThyFunc::BvSdiv, at)),
+            21 => Ok((ThyFunc::BvSrem, at)),
+            22 => Ok((ThyFunc::BvUrem, at)),
+            23 => Ok((ThyFunc::BvLshr, at)),
+            24 => Ok((ThyFunc::BvAshr, at)),
+            25 => Ok((ThyFunc::BvAnd, at)),
+            26 => Ok((ThyFunc::BvOr, at)),
+            27 => Ok((ThyFunc::BvXor, at)),
+            28 => Ok((ThyFunc::BvNot, at)),
+            29 => Ok((ThyFunc::BvAdd, at)),
+            30 => Ok((ThyFunc::BvNeg, at)),
+            31 => Ok((ThyFunc::BvSub, at)),
+            32 => Ok((ThyFunc::BvMul, at)),
+            33 => Ok((ThyFunc::BvShl, at)),
+            34 => Ok((ThyFunc::BvUgt, at)),
+            35 => Ok((ThyFunc::BvSgt, at)),
+            36 => Ok((ThyFunc::BvUlt, at)),
+            37 => Ok((ThyFunc::BvSlt, at)),
+            38 => Ok((ThyFunc::SetEmpty, at)),
+            39 => Ok((ThyFunc::SetSng, at)),
+            40 => Ok((ThyFunc::SetCup, at)),
+            41 => Ok((ThyFunc::SetCap, at)),
+            42 => Ok((ThyFunc::SetDif, at)),
+            43 => Ok((ThyFunc::SetSub, at)),
+            44 => Ok((ThyFunc::SetMem, at)),
+            45 => Ok((ThyFunc::MapDefault, at)),
+            46 => Ok((ThyFunc::MapSelect, at)),
+            47 => Ok((ThyFunc::MapStore, at)),
+            48..=255 => Err(Refusal::Piece),
+        }
     }
 }
 
 // Behind code 11 of a sort: a name and a count.
-fn data_node(s: &[u8], at: usize) -> SortNode
+#[tactic(auto, unfolding(crate::specs::Decode::sort_forms, crate::specs::Node::SortForm, crate::specs::Node::SortAt, crate::specs::Node::sort_of))]
+fn data_node(s: &[u8], at: usize) -> Read<SortNode>
     ensures { SortForm 11 s.now at result }
 {
-    let name = read_name(s, at);
-    let SpanRead::At(x, p) = name else {
-        return SortNode::Refused;
-    };
-    let count = number_at(s, p, 2);
-    let Number::Value(n, q) = count else {
-        return SortNode::Refused;
-    };
-    SortNode::Data(x, n, q)
+    let (x, p) = read_name(s, at)?;
+    let (n, q) = number_at(s, p, 2)?;
+    Ok((SortNode::Data(x, n), q))
 }
 
 // The node of a sort.
-pub fn read_sort_node(s: &[u8], at: usize) -> SortNode
+#[tactic(auto, unfolding(crate::specs::Decode::sort_forms, crate::specs::Node::SortForm, crate::specs::Node::SortAt, crate::specs::Node::sort_of))]
+pub fn read_sort_node(s: &[u8], at: usize) -> Read<SortNode>
     ensures { SortAt s.now at result }
 {
-    if s.len() <= at {
-        return SortNode::Refused;
-    }
-    let code = s[at];
-    let p = at + 1;
+    let (code, p) = byte_at(s, at)?;
     match code {
-        0 => SortNode::Int(p),
-        1 => SortNode::Bool(p),
-        2 => SortNode::Real(p),
-        3 => SortNode::Str(p),
-        4 => SortNode::BitVec(p),
-        5 => numbered_sort(s, p, NumberedSort::BvSize),
-        6 => numbered_sort(s, p, NumberedSort::Var),
-        7 => SortNode::Func(p),
-        8 => numbered_sort(s, p, NumberedSort::Abs),
-        9 => numbered_sort(s, p, NumberedSort::Set),
-        10 => numbered_sort(s, p, NumberedSort::Map),
+        0 => Ok((SortNode::Int, p)),
+        1 => Ok((SortNode::Bool, p)),
+        2 => Ok((SortNode::Real, p)),
+        3 => Ok((SortNode::Str, p)),
+        4 => Ok((SortNode::BitVec, p)),
+        5 => number_at(s, p, 4).map(|(n, q)| (SortNode::BvSize(n), q)),
+        6 => number_at(s, p, 2).map(|(n, q)| (SortNode::Var(n), q)),
+        7 => Ok((SortNode::Func, p)),
+        8 => number_at(s, p, 2).map(|(n, q)| (SortNode::Abs(n), q)),
+        9 => number_at(s, p, 2).map(|(n, q)| (SortNode::Set(n), q)),
+        10 => number_at(s, p, 2).map(|(n, q)| (SortNode::Map(n), q)),
         11 => data_node(s, p),
-        12..=255 => SortNode::Refused,
+        12..=255 => Err(Refusal::Piece),
     }
 }
 
-// The code of a Quantifier.
-pub fn read_quantifier(s: &[u8], at: usize) -> QuantifierRead
-    ensures { coded quantifiers s.now at ≡ quantifier_of result }
-{
-    if s.len() <= at {
-        return QuantifierRead::Refused;
+impl Coded for Quantifier {
+    ghost codes = { quantifiers };
+
+    #[tactic(auto, unfolding(crate::specs::Decode::quantifiers))]
+    fn behind(_s: &[u8], at: usize, code: u8) -> Read<Quantifier> {
+        match code {
+            0 => Ok((Quantifier::Exists, at)),
+            1 => Ok((Quantifier::Forall, at)),
+            2..=255 => Err(Refusal::Piece),
+        }
     }
-    let code = s[at];
-    let p = at + 1;
-    match code {
-        0 => QuantifierRead::Is(Quantifier::Exists, p),
-        1 => QuantifierRead::Is(Quantifier::Forall, p),
-        2..=255 => QuantifierRead::Refused,
-    }
-}
-
-// An expression's node that has a name behind its code.
-fn named_expr(s: &[u8], at: usize, kind: NamedExpr) -> ExprNode
-    ensures { ExprForm (named_code kind) s.now at result }
-{
-    let name = read_name(s, at);
-    let SpanRead::At(x, p) = name else {
-        return ExprNode::Refused;
-    };
-    match kind {
-        NamedExpr::Var => ExprNode::Var(x, p),
-        NamedExpr::Let => ExprNode::Let(x, p),
-        NamedExpr::IsCtor => ExprNode::IsCtor(x, p),
-    }
-}
-
-// A connective, which has a count behind its code.
-fn counted_expr(s: &[u8], at: usize, or: bool) -> ExprNode
-    ensures { ExprForm (connective_code or) s.now at result }
-{
-    let count = number_at(s, at, 2);
-    let Number::Value(n, p) = count else {
-        return ExprNode::Refused;
-    };
-    if or {
-        return ExprNode::Or(n, p);
-    }
-    ExprNode::And(n, p)
-}
-
-// A Boolean, or an application, which tells by a flag whether an output sort follows.
-fn flagged_expr(s: &[u8], at: usize, app: bool) -> ExprNode
-    ensures { ExprForm (flagged_code app) s.now at result }
-{
-    let flag = read_flag(s, at);
-    let FlagRead::Flag(b, p) = flag else {
-        return ExprNode::Refused;
-    };
-    if app {
-        return ExprNode::App(b, p);
-    }
-    ExprNode::Boolean(b, p)
-}
-
-// Behind code 2: 4 bytes.
-fn real_node(s: &[u8], at: usize) -> ExprNode
-    ensures { ExprForm 2 s.now at result }
-{
-    let number = number_at(s, at, 4);
-    let Number::Value(n, p) = number else {
-        return ExprNode::Refused;
-    };
-    ExprNode::Real(n, p)
-}
-
-// Behind code 0 of an expression: 16 bytes.
-fn numeral_node(s: &[u8], at: usize) -> ExprNode
-    ensures { ExprForm 0 s.now at result }
-{
-    let value = halves_at(s, at);
-    let Halves::Value(lo, hi, p) = value else {
-        return ExprNode::Refused;
-    };
-    ExprNode::Numeral(lo, hi, p)
-}
-
-// Behind code 3: a text.
-fn string_node(s: &[u8], at: usize) -> ExprNode
-    ensures { ExprForm 3 s.now at result }
-{
-    let text = read_text(s, at);
-    let SpanRead::At(x, p) = text else {
-        return ExprNode::Refused;
-    };
-    ExprNode::String(x, p)
 }
 
 // Behind code 4: 16 bytes and a width.
-fn bit_vec_node(s: &[u8], at: usize) -> ExprNode
+#[tactic(auto, using(crate::proofs::Behind::number_behind), unfolding(crate::specs::Decode::expr_forms, crate::specs::Node::expr_of))]
+fn bit_vec_node(s: &[u8], at: usize) -> Read<ExprNode>
     ensures { ExprForm 4 s.now at result }
 {
-    let value = halves_at(s, at);
-    let Halves::Value(lo, hi, p) = value else {
-        return ExprNode::Refused;
-    };
-    let width = number_at(s, p, 4);
-    let Number::Value(w, q) = width else {
-        return ExprNode::Refused;
-    };
-    ExprNode::BitVec(lo, hi, w, q)
-}
-
-// Behind code 9: the operation's code.
-fn binary_op_node(s: &[u8], at: usize) -> ExprNode
-    ensures { ExprForm 9 s.now at result }
-{
-    let op = read_bin_op(s, at);
-    let BinOpRead::Op(o, p) = op else {
-        return ExprNode::Refused;
-    };
-    ExprNode::BinaryOp(o, p)
-}
-
-// Behind code 10: the relation's code.
-fn atom_node(s: &[u8], at: usize) -> ExprNode
-    ensures { ExprForm 10 s.now at result }
-{
-    let rel = read_bin_rel(s, at);
-    let BinRelRead::Rel(o, p) = rel else {
-        return ExprNode::Refused;
-    };
-    ExprNode::Atom(o, p)
-}
-
-// Behind code 18: the function's code.
-fn thy_func_node(s: &[u8], at: usize) -> ExprNode
-    ensures { ExprForm 18 s.now at result }
-{
-    let func = read_thy_func(s, at);
-    let ThyRead::Func(f, p) = func else {
-        return ExprNode::Refused;
-    };
-    ExprNode::ThyFunc(f, p)
+    let ((lo, hi), p) = halves_at(s, at)?;
+    let (w, q) = number_at(s, p, 4)?;
+    Ok((ExprNode::BitVec(lo, hi, w), q))
 }
 
 // Behind code 20: which quantifier, and a count.
-fn quantifier_node(s: &[u8], at: usize) -> ExprNode
+#[tactic(auto, using(crate::proofs::Behind::quantifier_behind, crate::proofs::Behind::number_behind), unfolding(crate::specs::Decode::expr_forms, crate::specs::Node::expr_of))]
+fn quantifier_node(s: &[u8], at: usize) -> Read<ExprNode>
     ensures { ExprForm 20 s.now at result }
 {
-    let kind = read_quantifier(s, at);
-    let QuantifierRead::Is(k, p) = kind else {
-        return ExprNode::Refused;
-    };
-    let count = number_at(s, p, 2);
-    let Number::Value(n, q) = count else {
-        return ExprNode::Refused;
-    };
-    ExprNode::Quantifier(k, n, q)
+    let (k, p) = read_coded(s, at)?;
+    let (n, q) = number_at(s, p, 2)?;
+    Ok((ExprNode::Quantifier(k, n), q))
 }
 
 // The node of an expression.
-pub fn read_expr_node(s: &[u8], at: usize) -> ExprNode
+#[tactic(auto, using(crate::proofs::Behind::byte_behind, crate::proofs::Behind::number_behind, crate::proofs::Behind::name_behind, crate::proofs::Behind::text_behind, crate::proofs::Behind::flag_behind, crate::proofs::Behind::op_behind, crate::proofs::Behind::rel_behind, crate::proofs::Behind::func_behind), unfolding(crate::specs::Decode::expr_forms, crate::specs::Node::expr_of))]
+pub fn read_expr_node(s: &[u8], at: usize) -> Read<ExprNode>
     ensures { ExprAt s.now at result }
 {
-    if s.len() <= at {
-        return ExprNode::Refused;
-    }
-    let code = s[at];
-    let p = at + 1;
+    let (code, p) = byte_at(s, at)?;
     match code {
-        0 => numeral_node(s, p),
-        1 => flagged_expr(s, p, false),
-        2 => real_node(s, p),
-        3 => string_node(s, p),
+        0 => halves_at(s, p).map(|((lo, hi), q)| (ExprNode::Numeral(lo, hi), q)),
+        1 => read_coded(s, p).map(|(b, q)| (ExprNode::Boolean(b), q)),
+        2 => number_at(s, p, 4).map(|(n, q)| (ExprNode::Real(n), q)),
+        3 => read_text(s, p).map(|(x, q)| (ExprNode::String(x), q)),
         4 => bit_vec_node(s, p),
-        5 => named_expr(s, p, NamedExpr::Var),
-        6 => ExprNode::WKVar(p),
-        7 => ExprNode::Neg(p),
-        8 => ExprNode::Not(p),
-        9 => binary_op_node(s, p),
-        10 => atom_node(s, p),
-        11 => ExprNode::Imp(p),
-        12 => ExprNode::Iff(p),
-        13 => counted_expr(s, p, false),
-        14 => counted_expr(s, p, true),
-        15 => ExprNode::IfThenElse(p),
-        16 => named_expr(s, p, NamedExpr::Let),
-        17 => flagged_expr(s, p, true),
-        18 => thy_func_node(s, p),
-        19 => named_expr(s, p, NamedExpr::IsCtor),
+        5 => read_name(s, p).map(|(x, q)| (ExprNode::Var(x), q)),
+        6 => Ok((ExprNode::WKVar, p)),
+        7 => Ok((ExprNode::Neg, p)),
+        8 => Ok((ExprNode::Not, p)),
+        9 => read_coded(s, p).map(|(o, q)| (ExprNode::BinaryOp(o), q)),
+        10 => read_coded(s, p).map(|(o, q)| (ExprNode::Atom(o), q)),
+        11 => Ok((ExprNode::Imp, p)),
+        12 => Ok((ExprNode::Iff, p)),
+        13 => number_at(s, p, 2).map(|(n, q)| (ExprNode::And(n), q)),
+        14 => number_at(s, p, 2).map(|(n, q)| (ExprNode::Or(n), q)),
+        15 => Ok((ExprNode::IfThenElse, p)),
+        16 => read_name(s, p).map(|(x, q)| (ExprNode::Let(x), q)),
+        17 => read_coded(s, p).map(|(b, q)| (ExprNode::App(b), q)),
+        18 => read_coded(s, p).map(|(f, q)| (ExprNode::ThyFunc(f), q)),
+        19 => read_name(s, p).map(|(x, q)| (ExprNode::IsCtor(x), q)),
         20 => quantifier_node(s, p),
-        21..=255 => ExprNode::Refused,
+        21..=255 => Err(Refusal::Piece),
     }
 }
 
 // Behind code 0 of a predicate: a name and a count.
-fn kvar_node(s: &[u8], at: usize) -> PredNode
+#[tactic(auto, using(crate::proofs::Behind::name_behind, crate::proofs::Behind::number_behind), unfolding(crate::specs::Node::pred_of))]
+fn kvar_node(s: &[u8], at: usize) -> Read<PredNode>
     ensures { PredForm 0 s.now at result }
 {
-    let name = read_name(s, at);
-    let SpanRead::At(x, p) = name else {
-        return PredNode::Refused;
-    };
-    let count = number_at(s, p, 2);
-    let Number::Value(n, q) = count else {
-        return PredNode::Refused;
-    };
-    PredNode::KVar(x, n, q)
+    let (x, p) = read_name(s, at)?;
+    let (n, q) = number_at(s, p, 2)?;
+    Ok((PredNode::KVar(x, n), q))
 }
 
 // The node of a predicate.
-pub fn read_pred_node(s: &[u8], at: usize) -> PredNode
+#[tactic(auto, using(crate::proofs::Behind::byte_behind), unfolding(crate::specs::Node::pred_of))]
+pub fn read_pred_node(s: &[u8], at: usize) -> Read<PredNode>
     ensures { PredAt s.now at result }
 {
-    if s.len() <= at {
-        return PredNode::Refused;
-    }
-    let code = s[at];
-    let p = at + 1;
+    let (code, p) = byte_at(s, at)?;
     match code {
         0 => kvar_node(s, p),
-        1 => PredNode::Expr(p),
-        2..=255 => PredNode::Refused,
+        1 => Ok((PredNode::Expr, p)),
+        2..=255 => Err(Refusal::Piece),
     }
-}
-
-// Behind code 1 of a constraint: a count.
-fn conj_node(s: &[u8], at: usize) -> ConstraintNode
-    ensures { ConstraintForm 1 s.now at result }
-{
-    let number = number_at(s, at, 2);
-    let Number::Value(n, p) = number else {
-        return ConstraintNode::Refused;
-    };
-    ConstraintNode::Conj(n, p)
 }
 
 // The node of a constraint.
-pub fn read_constraint_node(s: &[u8], at: usize) -> ConstraintNode
+#[tactic(auto, using(crate::proofs::Behind::byte_behind, crate::proofs::Behind::number_behind), unfolding(crate::specs::Node::constraint_of))]
+pub fn read_constraint_node(s: &[u8], at: usize) -> Read<ConstraintNode>
     ensures { ConstraintAt s.now at result }
 {
-    if s.len() <= at {
-        return ConstraintNode::Refused;
-    }
-    let code = s[at];
-    let p = at + 1;
+    let (code, p) = byte_at(s, at)?;
     match code {
-        0 => ConstraintNode::Pred(p),
-        1 => conj_node(s, p),
-        2 => ConstraintNode::ForAll(p),
-        3..=255 => ConstraintNode::Refused,
+        0 => Ok((ConstraintNode::Pred, p)),
+        1 => number_at(s, p, 2).map(|(n, q)| (ConstraintNode::Conj(n), q)),
+        2 => Ok((ConstraintNode::ForAll, p)),
+        3..=255 => Err(Refusal::Piece),
     }
 }

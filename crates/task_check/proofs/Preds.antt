@@ -1,4 +1,5 @@
 -- What the steps of the predicate walker add up to, and whether a predicate is literally true.
+use Rattle.std.specs.Prelude.{Ok, Err}
 use mathlib.Core.Path.{◌≡◌, refl, sym, ap, ◌∙◌}
 use mathlib.Core.Bool.{Bool, true, false, ◌&&◌}
 use mathlib.Core.List.{List, [], ◌∷◌}
@@ -10,46 +11,49 @@ use lib.ListN.{length, get_or, drop}
 use borrow.Author.Tests.{le-leb, lt-leb, ne_eqb, eqb-true, eqb-false}
 use Rattle.task.specs.declared.Fault.{Fault}
 use Rattle.task.specs.declared.Fault.TheVariants.{Sound}
-use Rattle.task.specs.declared.Span.{Span}
 use Rattle.task.specs.declared.PredNode.{PredNode}
 use Rattle.task.specs.declared.PredNode.TheVariants as pred_node
 use Rattle.task.specs.Ast.{Constant, Expr, Exprs, Pred}
 use Rattle.task.specs.Decode.{Res, got, refuse, bind, Decoder, refusal, number, name, text, many, counted, coded, bin_ops, bin_rels, thy_funcs, quantifiers, flags, flag, given, binder, expr_forms, pred_forms, dec_expr, dec_pred}
 use Rattle.task.specs.Fault.{name_fault, expr_fault, exprs_fault, pred_fault}
 use Rattle.task.specs.Task.{is_true, literally_true}
-use Rattle.task.specs.Node.{bytes_of, pred_of, PredAt}
+use Rattle.task.specs.declared.Refusal.{Refusal}
+use Rattle.task.specs.Node.{Answered, Bytes, number_of, pred_of, PredAt}
 use Rattle.task.proofs.Judging.{sound_lower}
 use Rattle.task.proofs.Nodes.{pred_at}
 use Rattle.task.proofs.Reading.{le_or_lt, coded_short, coded_at}
-use Rattle.task_check.specs.declared.Walked.{Walked}
-use Rattle.task_check.specs.declared.Walked.TheVariants as walked_is
 use Rattle.task_check.specs.Walk.{walked, after, read_true}
 use Rattle.task_check.proofs.Exprs.{lasts}
 
 -- a predicate by its node
-pub pred_none : (l : ℕ) (s : List ℕ) (at : ℕ) → l ≡ 0 → walked_is.Refused 3 ≡ walked pred_fault (dec_pred l s at)
-unfolding dec_pred
-pred_none l s at e = rw e
+module _ (l : ℕ) (s : List ℕ) (at : ℕ) where
+  pub pred_none : l ≡ 0 → refuse 3 ≡ walked pred_fault (dec_pred l s at)
+  unfolding dec_pred
+  pred_none e = rw e
 
-module _ (l : ℕ) (s : List ℕ) (at : ℕ) (node : PredNode) where
-  pub kvar_walks : (x : Span) (n p : ℕ) (f : Fault) (v w : Walked) → (l ≡ 0 → ⊥) → PredAt s at node → node ≡ pred_node.KVar x n p → f ≡ name_fault (bytes_of s x)
-      → v ≡ walked exprs_fault (many Exprs.none Exprs.more (dec_expr (l - 1)) n s p) → w ≡ after f v → w ≡ walked pred_fault (dec_pred l s at)
-  unfolding pred_of pred_fault
-  kvar_walks x n p f v w z h e u i i' =
-      rw (pred_at l s at node (pred_node.KVar x n p) z h e)
-      (i' ∙ ap (after f) i ∙ lasts exprs_fault pred_fault (many Exprs.none Exprs.more (dec_expr (l - 1)) n s p) (Pred.kvar (bytes_of s x)) f (λ es. rw u))
+  module _ (z : l ≡ 0 → ⊥) where
+    by_node : (n : Answered PredNode) → PredAt s at n → dec_pred l s at ≡ pred_of s (dec_expr (l - 1)) n
+    by_node n h = pred_at l s at n n z h refl
 
-  pub expr_walks : (p : ℕ) (v w : Walked) → (l ≡ 0 → ⊥) → PredAt s at node → node ≡ pred_node.Expr p → v ≡ walked (expr_fault false) (dec_expr (l - 1) s p)
-      → w ≡ after Sound v → w ≡ walked pred_fault (dec_pred l s at)
-  unfolding pred_of pred_fault
-  expr_walks p v w z h e i i' =
-      rw (pred_at l s at node (pred_node.Expr p) z h e)
-      (i' ∙ ap (after Sound) i
-      ∙ lasts (expr_fault false) pred_fault (dec_expr (l - 1) s p) Pred.expr Sound (λ a. sym (sound_lower (expr_fault false a))))
+    pub pred_refused : (r : Refusal) → PredAt s at (Err r) → refuse (number_of r) ≡ walked pred_fault (dec_pred l s at)
+    unfolding pred_of
+    pred_refused r h = rw (by_node (Err r) h)
 
-  pub pred_refused : (l ≡ 0 → ⊥) → PredAt s at node → node ≡ pred_node.Refused → walked_is.Refused 2 ≡ walked pred_fault (dec_pred l s at)
-  unfolding pred_of
-  pred_refused z h e = rw (pred_at l s at node pred_node.Refused z h e)
+    module _ (node : PredNode) (p : ℕ) (h : PredAt s at (Ok (node, p))) where
+      pub kvar_walks : (x : Bytes) (n : ℕ) (f : Fault) (v w : Res Fault) → node ≡ pred_node.KVar x n → f ≡ name_fault x.now
+          → v ≡ walked exprs_fault (many Exprs.none Exprs.more (dec_expr (l - 1)) n s p) → w ≡ after f v → w ≡ walked pred_fault (dec_pred l s at)
+      unfolding pred_of pred_fault
+      kvar_walks x n f v w e u i i' =
+          rw (by_node (Ok (node, p)) h, e)
+          (i' ∙ ap (after f) i ∙ lasts exprs_fault pred_fault (many Exprs.none Exprs.more (dec_expr (l - 1)) n s p) (Pred.kvar x.now) f (λ es. rw u))
+
+      pub expr_walks : (v w : Res Fault) → node ≡ pred_node.Expr → v ≡ walked (expr_fault false) (dec_expr (l - 1) s p)
+          → w ≡ after Sound v → w ≡ walked pred_fault (dec_pred l s at)
+      unfolding pred_of pred_fault
+      expr_walks v w e i i' =
+          rw (by_node (Ok (node, p)) h, e)
+          (i' ∙ ap (after Sound) i
+          ∙ lasts (expr_fault false) pred_fault (dec_expr (l - 1) s p) Pred.expr Sound (λ a. sym (sound_lower (expr_fault false a))))
 
 -- WHETHER A PREDICATE IS LITERALLY TRUE
 

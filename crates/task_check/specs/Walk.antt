@@ -6,7 +6,6 @@ use Rattle.task.specs.Ast.{Expr, Exprs, Pred}
 use Rattle.task.specs.Decode.{Res, got, refuse, Decoder, give, ◌▹◌, many, counted, name, binder, given, dec_expr}
 use Rattle.task.specs.Fault.{lower, name_fault, text_fault, width_fault, thy_func_fault}
 use Rattle.task.specs.Task.{literally_true}
-use Rattle.task.specs.Node.{bytes_of}
 use Rattle.task.specs.declared.SortNode.{SortNode}
 use Rattle.task.specs.declared.SortNode.TheVariants as sort_node_is
 use Rattle.task.specs.declared.ExprNode.{ExprNode}
@@ -16,59 +15,55 @@ use Rattle.task_check.specs.declared.SortParts.{SortParts}
 use Rattle.task_check.specs.declared.SortParts.TheVariants as sort_parts_is
 use Rattle.task_check.specs.declared.ExprParts.{ExprParts}
 use Rattle.task_check.specs.declared.ExprParts.TheVariants as expr_parts_is
-use Rattle.task_check.specs.declared.Walked.{Walked}
-use Rattle.task_check.specs.declared.Walked.TheVariants as walked_is
 
--- where a decoded piece ends and its fault, or the refusal's number
-abbrev pub walked : {A : Type 0} → (A → Fault) → Res A → Walked
-walked fault (got a p) = walked_is.Next (fault a) p
-walked fault (refuse k) = walked_is.Refused k
+-- the fault of a decoded piece and where it ends, or the refusal
+abbrev pub walked : {A : Type 0} → (A → Fault) → Res A → Res Fault
+walked fault (got a p) = got (fault a) p
+walked fault (refuse k) = refuse k
 
 -- an answer with a fault that was met before
-abbrev pub after : Fault → Walked → Walked
-after f (walked_is.Next g p) = walked_is.Next (lower f g) p
-after f (walked_is.Refused k) = walked_is.Refused k
+abbrev pub after : Fault → Res Fault → Res Fault
+after f (got g p) = got (lower f g) p
+after f (refuse k) = refuse k
 
 -- what a sort's node leaves to be walked
-abbrev pub sort_parts : List ℕ → Bool → SortNode → SortParts
-sort_parts s under (sort_node_is.Int p) = sort_parts_is.Row 0 p (width_fault under)
-sort_parts s under (sort_node_is.Bool p) = sort_parts_is.Row 0 p (width_fault under)
-sort_parts s under (sort_node_is.Real p) = sort_parts_is.Row 0 p (width_fault under)
-sort_parts s under (sort_node_is.Str p) = sort_parts_is.Row 0 p (width_fault under)
-sort_parts s under (sort_node_is.BitVec p) = sort_parts_is.Width p (width_fault under)
-sort_parts s under (sort_node_is.BvSize n p) = sort_parts_is.Row 0 p (width_fault (not under))
-sort_parts s under (sort_node_is.Var n p) = sort_parts_is.Row 0 p (width_fault under)
-sort_parts s under (sort_node_is.Func p) = sort_parts_is.Row 2 p (width_fault under)
-sort_parts s under (sort_node_is.Abs n p) = sort_parts_is.Row 1 p (width_fault under)
-sort_parts s under (sort_node_is.Set n p) = sort_parts_is.Row n p (width_fault under)
-sort_parts s under (sort_node_is.Map n p) = sort_parts_is.Row n p (width_fault under)
-sort_parts s under (sort_node_is.Data x n p) = sort_parts_is.Row n p (lower (width_fault under) (name_fault (bytes_of s x)))
-sort_parts s under sort_node_is.Refused = sort_parts_is.Refused
+abbrev pub sort_parts : Bool → SortNode → SortParts
+sort_parts under sort_node_is.Int = sort_parts_is.Row 0 (width_fault under)
+sort_parts under sort_node_is.Bool = sort_parts_is.Row 0 (width_fault under)
+sort_parts under sort_node_is.Real = sort_parts_is.Row 0 (width_fault under)
+sort_parts under sort_node_is.Str = sort_parts_is.Row 0 (width_fault under)
+sort_parts under sort_node_is.BitVec = sort_parts_is.Width (width_fault under)
+sort_parts under (sort_node_is.BvSize n) = sort_parts_is.Row 0 (width_fault (not under))
+sort_parts under (sort_node_is.Var n) = sort_parts_is.Row 0 (width_fault under)
+sort_parts under sort_node_is.Func = sort_parts_is.Row 2 (width_fault under)
+sort_parts under (sort_node_is.Abs n) = sort_parts_is.Row 1 (width_fault under)
+sort_parts under (sort_node_is.Set n) = sort_parts_is.Row n (width_fault under)
+sort_parts under (sort_node_is.Map n) = sort_parts_is.Row n (width_fault under)
+sort_parts under (sort_node_is.Data x n) = sort_parts_is.Row n (lower (width_fault under) (name_fault x.now))
 
 -- what an expression's node leaves to be walked
-abbrev pub expr_parts : List ℕ → Bool → ExprNode → ExprParts
-expr_parts s head (expr_node.Numeral lo hi p) = expr_parts_is.Row 0 p Sound
-expr_parts s head (expr_node.Boolean b p) = expr_parts_is.Row 0 p Sound
-expr_parts s head (expr_node.Real n p) = expr_parts_is.Row 0 p Sound
-expr_parts s head (expr_node.String x p) = expr_parts_is.Row 0 p (text_fault (bytes_of s x))
-expr_parts s head (expr_node.BitVec lo hi w p) = expr_parts_is.Row 0 p Sound
-expr_parts s head (expr_node.Var x p) = expr_parts_is.Row 0 p (name_fault (bytes_of s x))
-expr_parts s head (expr_node.WKVar p) = expr_parts_is.Row 0 p WKVar
-expr_parts s head (expr_node.Neg p) = expr_parts_is.Row 1 p Sound
-expr_parts s head (expr_node.Not p) = expr_parts_is.Row 1 p Sound
-expr_parts s head (expr_node.BinaryOp o p) = expr_parts_is.Row 2 p Sound
-expr_parts s head (expr_node.Atom r p) = expr_parts_is.Row 2 p Sound
-expr_parts s head (expr_node.Imp p) = expr_parts_is.Row 2 p Sound
-expr_parts s head (expr_node.Iff p) = expr_parts_is.Row 2 p Sound
-expr_parts s head (expr_node.And n p) = expr_parts_is.Row n p Sound
-expr_parts s head (expr_node.Or n p) = expr_parts_is.Row n p Sound
-expr_parts s head (expr_node.IfThenElse p) = expr_parts_is.Row 3 p Sound
-expr_parts s head (expr_node.Let x p) = expr_parts_is.Row 2 p (name_fault (bytes_of s x))
-expr_parts s head (expr_node.App b p) = expr_parts_is.App b p
-expr_parts s head (expr_node.ThyFunc f p) = expr_parts_is.Row 0 p (thy_func_fault head f)
-expr_parts s head (expr_node.IsCtor x p) = expr_parts_is.Row 1 p (name_fault (bytes_of s x))
-expr_parts s head (expr_node.Quantifier q n p) = expr_parts_is.Quantifier n p
-expr_parts s head expr_node.Refused = expr_parts_is.Refused
+abbrev pub expr_parts : Bool → ExprNode → ExprParts
+expr_parts head (expr_node.Numeral lo hi) = expr_parts_is.Row 0 Sound
+expr_parts head (expr_node.Boolean b) = expr_parts_is.Row 0 Sound
+expr_parts head (expr_node.Real n) = expr_parts_is.Row 0 Sound
+expr_parts head (expr_node.String x) = expr_parts_is.Row 0 (text_fault x.now)
+expr_parts head (expr_node.BitVec lo hi w) = expr_parts_is.Row 0 Sound
+expr_parts head (expr_node.Var x) = expr_parts_is.Row 0 (name_fault x.now)
+expr_parts head expr_node.WKVar = expr_parts_is.Row 0 WKVar
+expr_parts head expr_node.Neg = expr_parts_is.Row 1 Sound
+expr_parts head expr_node.Not = expr_parts_is.Row 1 Sound
+expr_parts head (expr_node.BinaryOp o) = expr_parts_is.Row 2 Sound
+expr_parts head (expr_node.Atom r) = expr_parts_is.Row 2 Sound
+expr_parts head expr_node.Imp = expr_parts_is.Row 2 Sound
+expr_parts head expr_node.Iff = expr_parts_is.Row 2 Sound
+expr_parts head (expr_node.And n) = expr_parts_is.Row n Sound
+expr_parts head (expr_node.Or n) = expr_parts_is.Row n Sound
+expr_parts head expr_node.IfThenElse = expr_parts_is.Row 3 Sound
+expr_parts head (expr_node.Let x) = expr_parts_is.Row 2 (name_fault x.now)
+expr_parts head (expr_node.App b) = expr_parts_is.App b
+expr_parts head (expr_node.ThyFunc f) = expr_parts_is.Row 0 (thy_func_fault head f)
+expr_parts head (expr_node.IsCtor x) = expr_parts_is.Row 1 (name_fault x.now)
+expr_parts head (expr_node.Quantifier q n) = expr_parts_is.Quantifier n
 
 -- what stands behind an application's flag
 abbrev pub applied : ℕ → Bool → Decoder Expr

@@ -1,11 +1,11 @@
 -- Where the sections of a file are: what the trailer says.
-use Rattle.std.specs.Prelude.{ℕ, ◌≤◌, Bool, cond, ◌&&◌, List, leb, eqb, length}
+use Rattle.std.specs.Prelude.{ℕ, ◌≤◌, Bool, cond, ◌&&◌, List, leb, eqb, length, Result, Ok, Err}
+use Rattle.task.specs.declared.Refusal.{Refusal}
+use Rattle.task.specs.declared.Refusal.TheVariants.{Trailer}
 use Rattle.task.specs.Task.{bound, framed}
 use Rattle.item_check.specs.declared.Section.{Section}
 use Rattle.item_check.specs.declared.Section.TheVariants.{Comments, Datatypes, Constants, Functions, KVars}
 use Rattle.trailer.specs.declared.Bounds.{Bounds}
-use Rattle.trailer.specs.declared.Trailer.{Trailer}
-use Rattle.trailer.specs.declared.Trailer.TheVariants as trailer_is
 
 -- where the sections begin and where the last one ends
 abbrev pub bounds_of : List ℕ → Bounds
@@ -25,9 +25,9 @@ ordered b =
     eqb b.comments 0 && leb b.comments b.datatypes && leb b.datatypes b.constants && leb b.constants b.functions
     && leb b.functions b.kvars && leb b.kvars b.constraint && leb b.constraint b.end
 
--- where the sections begin, if the file is framed
-abbrev pub trailer_of : List ℕ → Trailer
-trailer_of file = cond (framed file) (trailer_is.Read (bounds_of file)) trailer_is.Refused
+-- where the sections begin, if the file is framed, or the refusal
+abbrev pub trailer_of : List ℕ → Result Bounds Refusal
+trailer_of file = cond (framed file) (Ok (bounds_of file)) (Err Trailer)
 
 -- the sections stand inside the file, and it is not too long
 pub record Inside (file : List ℕ) (b : Bounds) : Type 0 where

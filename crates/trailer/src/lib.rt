@@ -7,10 +7,10 @@ ghost use Rattle.task.specs.Task.{mark, bound};
 ghost use Rattle.trailer.specs.Bounds.{bounds_of, ordered, trailer_of, start_of, end_of};
 
 use item_check::Section;
-use task::Number;
+use task::Refusal;
 
 // Where each section begins, and where the last one ends.
-#[derive(Clone, Copy)]
+#[derive(Clone, Copy, PartialEq, Eq, Debug)]
 pub struct Bounds {
     pub comments: usize,
     pub datatypes: usize,
@@ -21,23 +21,17 @@ pub struct Bounds {
     pub end: usize,
 }
 
-#[derive(Clone, Copy)]
-pub enum Trailer {
-    Read(Bounds),
-    Refused,
-}
-
 // The offset number i of the trailer.
+#[tactic(auto, using(crate::proofs::Trailers::offset_there, crate::proofs::Trailers::offset_is))]
 fn offset(file: &[u8], i: usize) -> usize
     requires { (28 ≤ length file.now) × (i < 6) }
     ensures { result ≡ bound file.now i }
 {
     let start = file.len() - 28 + 4 * i;
-    let read = task::number_at(file, start, 4);
-    let Number::Value(n, _) = read else {
-        return 0;
-    };
-    n as usize
+    match task::number_at(file, start, 4) {
+        Ok((n, _)) => n as usize,
+        Err(_) => 0,
+    }
 }
 
 // Whether the file ends in the mark.
@@ -45,8 +39,7 @@ fn is_marked(file: &[u8]) -> bool
     requires { 28 ≤ length file.now }
     ensures { result ≡ same (drop (length file.now - 4) file.now) mark }
 {
-    let start = file.len() - 4;
-    smtlib::same_bytes(&file[start..], b"HORN")
+    file.ends_with(b"HORN")
 }
 
 // The offsets as they stand.
@@ -69,46 +62,28 @@ fn bounds_of(file: &[u8]) -> Bounds
 fn in_order(b: Bounds) -> bool
     ensures { result ≡ ordered b }
 {
-    if b.comments != 0 {
-        return false;
-    }
-    if b.datatypes < b.comments {
-        return false;
-    }
-    if b.constants < b.datatypes {
-        return false;
-    }
-    if b.functions < b.constants {
-        return false;
-    }
-    if b.kvars < b.functions {
-        return false;
-    }
-    if b.constraint < b.kvars {
-        return false;
-    }
-    b.constraint <= b.end
+    b.comments == 0
+        && b.comments <= b.datatypes
+        && b.datatypes <= b.constants
+        && b.constants <= b.functions
+        && b.functions <= b.kvars
+        && b.kvars <= b.constraint
+        && b.constraint <= b.end
 }
 
 // The length, the mark and the offsets.
-pub fn read_trailer(file: &[u8]) -> Trailer
+#[tactic(auto, unfolding(task::specs::Task::framed))]
+pub fn read_trailer(file: &[u8]) -> Result<Bounds, Refusal>
     ensures { result ≡ trailer_of file.now }
 {
-    if file.len() < 28 {
-        return Trailer::Refused;
+    if file.len() < 28 || 60000 < file.len() || !is_marked(file) {
+        return Err(Refusal::Trailer);
     }
-    if 60000 < file.len() {
-        return Trailer::Refused;
+    let b = bounds_of(file);
+    if !in_order(b) {
+        return Err(Refusal::Trailer);
     }
-    let marked = is_marked(file);
-    if marked {
-        let b = bounds_of(file);
-        let ordered = in_order(b);
-        if ordered {
-            return Trailer::Read(b);
-        }
-    }
-    Trailer::Refused
+    Ok(b)
 }
 
 // Where a section begins.

@@ -10,136 +10,97 @@ use item_check::Section;
 use output::Out;
 use smt_text::Edition;
 use smt_word::Sent;
-use task::Number;
 
 // Standard output.
 const STDOUT_FILENO: i32 = 1;
 
+// A piece behind a datatype section.
+#[derive(Clone, Copy)]
+struct Piece<'a> {
+    kind: u8,
+    edition: Edition,
+    end: usize,
+    body: &'a [u8],
+    ghost short: { length body.now ≤ 65535 },
+}
+
 fn main() {
-    let mut left: usize = 4096;
-    while 0 < left {
-        if write_next() {
-            left -= 1;
-        } else {
-            left = 0;
-        }
+    let mut buffer = io::large_buffer();
+    for _ in 0..4096 {
+        let Some(piece) = next_piece(&mut buffer) else {
+            return;
+        };
+        print_piece(piece);
     }
 }
 
-// The next piece, if there is one.
-fn write_next() -> bool {
+// The next piece, if there is one. Its bytes are put into the buffer.
+fn next_piece(buffer: &mut [u8]) -> Option<Piece> {
     let mut head = [0u8; 5];
-    let n = io::read_full(0, &mut head);
-    if n < 5 {
-        return false;
+    if io::read_full(0, &mut head) < 5 {
+        return None;
     }
-    let kind = head[0];
-    let end = task::number_at(&head, 1, 2);
-    let Number::Value(datatypes, _) = end else {
-        return false;
-    };
-    let length = task::number_at(&head, 3, 2);
-    let Number::Value(size, _) = length else {
-        return false;
-    };
-    if 65535 < size {
-        return false;
+    let [kind, end0, end1, size0, size1] = head;
+    let size = usize::from(u16::from_le_bytes([size0, size1]));
+    let body = buffer.get_mut(..size)?;
+    if io::read_full(0, body) < size {
+        return None;
     }
-    write_sized(kind, datatypes as usize, size as usize)
-}
-
-// A piece of that many bytes, if they are there.
-fn write_sized(kind: u8, end: usize, n: usize) -> bool
-    requires { n ≤ 65535 }
-{
-    let mut buffer = io::large_buffer();
-    write_from(kind, end, &mut buffer[..n])
-}
-
-// A piece that fills the slice.
-fn write_from(kind: u8, end: usize, body: &mut [u8]) -> bool
-    requires { length body.old ≤ 65535 }
-{
-    let n = body.len();
-    let m = io::read_full(0, body);
-    if m < n {
-        return false;
-    }
-    print_piece(kind, end, body);
-    true
-}
-
-// Measures the piece behind the datatype section without a buffer, and writes it into one.
-fn print_piece(kind: u8, end: usize, body: &[u8])
-    requires { length body.now ≤ 65535 }
-{
-    print_measure(kind, end, body);
-    io::write_all(STDOUT_FILENO, b" ");
-    print_written(kind, end, body);
-    io::write_all(STDOUT_FILENO, b"\n");
-}
-
-fn print_measure(kind: u8, end: usize, body: &[u8])
-    requires { length body.now ≤ 65535 }
-{
-    let mut buffer = [0u8; 1];
-    let sent = write_piece(kind, end, body, &mut buffer[..0]);
-    let out = sent.out;
-    io::print_decimal(STDOUT_FILENO, out.len as u64);
-}
-
-fn print_written(kind: u8, end: usize, body: &[u8])
-    requires { length body.now ≤ 65535 }
-{
-    let mut buffer = io::large_buffer();
-    let sent = write_piece(kind, end, body, &mut buffer);
-    let out = sent.out;
-    print_text(&buffer, out.len);
-}
-
-// The first n bytes, if there are as many.
-fn print_text(text: &[u8], n: usize) {
-    if n <= text.len() {
-        io::write_all(STDOUT_FILENO, &text[..n]);
-    }
-}
-
-// The piece of that kind, with a table of the names that the datatype section declares.
-fn write_piece(kind: u8, end: usize, body: &[u8], buf: &mut [u8]) -> Sent
-    requires { length body.now ≤ 65535 }
-{
-    let mut table = [0u16; 66562];
-    if end <= body.len() {
-        declared::push_section(body, 0, end, Section::Datatypes, &mut table);
-        smt_sort::set_edition(&mut table, edition_of(kind));
-        return write_encoded(kind % 128, end, body, &table, buf);
-    }
-    Sent {
-        at: end,
-        out: Out::new(),
-    }
+    Some(Piece {
+        kind: kind % 128,
+        edition: edition_of(kind),
+        end: u16::from_le_bytes([end0, end1]).into(),
+        body,
+    })
 }
 
 // The edition that is asked for with a kind.
 fn edition_of(kind: u8) -> Edition {
     if kind < 128 {
-        return Edition::Z3;
+        Edition::Z3
+    } else {
+        Edition::Cvc5
     }
-    Edition::Cvc5
 }
 
-fn write_encoded(kind: u8, end: usize, body: &[u8], enc: &[u16], buf: &mut [u8]) -> Sent
-    requires { Chained body.now enc.now }
+// Measures a piece without a buffer, and writes it into one.
+fn print_piece(piece: Piece) {
+    let mut none = [0u8; 0];
+    io::print_decimal(STDOUT_FILENO, write_piece(piece, &mut none) as u64);
+    io::write_all(STDOUT_FILENO, b" ");
+    let mut buffer = io::large_buffer();
+    let len = write_piece(piece, &mut buffer);
+    if let Some(text) = buffer.get(..len) {
+        io::write_all(STDOUT_FILENO, text);
+    }
+    io::write_all(STDOUT_FILENO, b"\n");
+}
+
+// Writes a piece with a table of the names that the datatype section declares, and answers its length.
+fn write_piece(piece: Piece, buf: &mut [u8]) -> usize {
+    if piece.body.len() < piece.end {
+        return 0;
+    }
+    let mut table = [0u16; 66562];
+    declared::push_section(piece.body, 0, piece.end, Section::Datatypes, &mut table);
+    smt_sort::set_edition(&mut table, piece.edition);
+    let sent = write_encoded(piece, &table, buf);
+    sent.out.len
+}
+
+fn write_encoded(piece: Piece, enc: &[u16], buf: &mut [u8]) -> Sent
+    requires { Chained piece.body.now enc.now }
 {
     let out = Out::new();
-    match kind {
-        0 => smt_sort::write_sort(body, end, 256, enc, buf, out),
-        1 => smt_expr::write_expr(body, end, 256, enc, buf, out),
-        2 => smt_fmt::write_pred(body, end, 256, enc, buf, out),
-        3 => smt_fmt::write_datatype_decl(body, end, enc, buf, out),
-        4 => smt_fmt::write_const_decl(body, end, enc, buf, out),
-        5 => smt_fmt::write_fun_def(body, end, enc, buf, out),
-        6 => smt_fmt::write_kvar_decl(body, end, enc, buf, out),
-        7..=255 => Sent { at: end, out },
+    let at = piece.end;
+    match piece.kind {
+        0 => smt_sort::write_sort(piece.body, at, 256, enc, buf, out),
+        1 => smt_expr::write_expr(piece.body, at, 256, enc, buf, out),
+        2 => smt_fmt::write_pred(piece.body, at, 256, enc, buf, out),
+        3 => smt_fmt::write_datatype_decl(piece.body, at, enc, buf, out),
+        4 => smt_fmt::write_const_decl(piece.body, at, enc, buf, out),
+        5 => smt_fmt::write_fun_def(piece.body, at, enc, buf, out),
+        6 => smt_fmt::write_kvar_decl(piece.body, at, enc, buf, out),
+        7..=255 => Sent { at, out },
     }
 }

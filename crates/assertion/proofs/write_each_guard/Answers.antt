@@ -1,33 +1,15 @@
 -- `write_each_guard`: each turn sends what one of the ForAlls that are left has.
-use borrow.Author.Rules.{rules}
-use mathlib.Core.Path.{refl}
-use native.Mathlib.Omega.{arith}
 use Rattle.output.specs.Emit.{Sends}
-use Rattle.assertion.proofs.Guards.{along_start, along_offset, along_done, own_sent}
+use Rattle.assertion.proofs.Guards.{along_start, along_more, along_end, own_sent}
 use Rattle.assertion.proofs.write_each_guard.Goals as goal
 
-pub loop-i-init : goal.loop-i-init
-loop-i-init c = (along_start _ _ _ _, refl)
+pub loop-offset-init : goal.loop-offset-init
+loop-offset-init c = along_start _ _ _ _
 
-pub offset_bounds-path-i : goal.offset_bounds-path-i
-offset_bounds-path-i c = let h = c.requires.1.within in let t = c.loop-i-test.true in omega arith
-
-pub bounds-path-i : goal.bounds-path-i
-bounds-path-i c = let h = c.requires.1.within in let t = c.loop-i-test.true in omega arith
-
-pub write_own_guards-own-requires : goal.write_own_guards-own-requires
-write_own_guards-own-requires c = c.requires.0
-
-pub overflow_add-i : goal.overflow_add-i
-overflow_add-i c = let h = c.requires.1.within in let t = c.loop-i-test.true in omega arith
-
-pub loop-i-preserved : goal.loop-i-preserved
+pub loop-offset-preserved : goal.loop-offset-preserved
 unfolding Sends
-loop-i-preserved c = (along_offset _ _ _ _ c.requires.1 _ _ _ _ c.loop-i-test.true c.position-at.ensures c.loop-i.invariant.0 (own_sent _ _ _ _ _ _ _ _ _ c.write_own_guards-own.ensures), search rules)
-
-pub shape_of-buf : goal.shape_of-buf
-shape_of-buf c = c.loop-i.invariant.1
+loop-offset-preserved c = along_more _ _ _ _ _ _ _ c.loop-offset-test.true c.loop-offset.invariant (rw c.position.ensures at (own_sent _ _ _ _ _ _ _ _ _ c.write_own_guards-own.ensures))
 
 pub returns : goal.returns
 unfolding Sends
-returns c = along_done _ _ _ _ c.requires.1 _ _ c.loop-i-test.false c.loop-i.invariant.0
+returns c = rw c.offsets-offset-items.ensures.0 at (along_end _ _ _ _ _ _ c.loop-offset-test.false c.loop-offset.invariant)

@@ -5,10 +5,10 @@ use Rattle.assertion.proofs.Guards.{own_unbound, own_uncounted, own_runs}
 use Rattle.assertion.proofs.write_own_guards.Goals as goal
 
 pub returns-in_default : goal.returns-in_default
-returns-in_default c = own_unbound (lists (encoder_in c.args.s.now c.args.enc.now)) _ _ _ _ _ c.check_binder-binder.ensures _ c.in_default.is
+returns-in_default c = own_unbound (lists (encoder_in c.args.s.now c.args.enc.now)) _ _ _ _ _ (rw c.in_default.is at c.check_binder.ensures)
 
-pub returns-in_default-number : goal.returns-in_default-number
-returns-in_default-number c = own_uncounted (lists (encoder_in c.args.s.now c.args.enc.now)) _ _ _ _ _ c.check_binder-binder.ensures _ _ c.in-Next.is _ c.number_at-number.ensures c.in_default-number.is
+pub returns-in_default-number_at : goal.returns-in_default-number_at
+returns-in_default-number_at c = own_uncounted (lists (encoder_in c.args.s.now c.args.enc.now)) _ _ _ _ _ _ c.in-Ok.ensures _ (rw c.in_default-number_at.is at c.number_at.ensures)
 
 pub returns : goal.returns
-returns c = own_runs (lists (encoder_in c.args.s.now c.args.enc.now)) _ _ _ _ _ c.check_binder-binder.ensures _ _ c.in-Next.is _ c.number_at-number.ensures _ _ c.in-Value.is (λ ps r e. (c.write_kept.ensures ps r e).1)
+returns c = own_runs (lists (encoder_in c.args.s.now c.args.enc.now)) _ _ _ _ _ _ c.in-Ok.ensures _ _ c.in-Ok-number_at.ensures (λ ps r e. (c.write_kept.ensures ps r e).1)

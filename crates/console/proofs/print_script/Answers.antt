@@ -7,14 +7,14 @@ use Rattle.smt_text.specs.declared.Edition.TheVariants.{Z3}
 use Rattle.console.proofs.Filling.{print_task, print_none}
 use Rattle.console.proofs.print_script.Goals as goal
 
-pub inspect-inspected-requires : goal.inspect-inspected-requires
-inspect-inspected-requires c = record { blank = zeros_blank 61026 (omega arith); words = λ h. simp length-replicate (omega arith) }
+pub inspect-requires : goal.inspect-requires
+inspect-requires c = record { blank = zeros_blank 61026 (omega arith); words = λ h. simp length-replicate (omega arith) }
 
 pub print_task-requires : goal.print_task-requires
-print_task-requires c = (accepted _ _ _ _ _ c.inspect-inspected.ensures.0 c.in-Task.is, edition_names _ _ c.inspect-inspected.ensures.1 Z3 _ c.set_edition.ensures)
+print_task-requires c = (accepted _ _ c.in-Ok.ensures.0, edition_names _ _ c.in-Ok.ensures.1 Z3 _ c.set_edition.ensures)
 
-pub returns-in-Task : goal.returns-in-Task
-returns-in-Task c = print_task _ _ _ (edition_is _ _ c.inspect-inspected.ensures.1 Z3 _ c.set_edition.ensures) c.print_task.ensures
+pub returns-in-Ok : goal.returns-in-Ok
+returns-in-Ok c = print_task _ _ _ (edition_is _ _ c.in-Ok.ensures.1 Z3 _ c.set_edition.ensures) c.print_task.ensures
 
-pub returns-in-Refused : goal.returns-in-Refused
-returns-in-Refused c = print_none _ _ _ (task_refused _ _ c.inspect-inspected.ensures.0 _ c.in-Refused.is) c.print_refused.ensures
+pub returns-in-Err : goal.returns-in-Err
+returns-in-Err c = print_none _ _ _ (task_refused _ _ c.in-Err.ensures.0) c.print_refused.ensures

@@ -11,11 +11,8 @@ decreases-check_for_all l = 2 * l.levels + 1
 abbrev pub decreases-check_members : goal.decreases-check_members
 decreases-check_members l = 2 * l.levels + 1
 
-abbrev pub invariant-check_members-loop-left : goal.invariant-check_members-loop-left
-invariant-check_members-loop-left l = Going l.s l.levels (names_on l.s (entries l.path)) l.n l.at l.left l.p l.fault l.heads
-
-abbrev pub decreases-check_members-loop-left : goal.decreases-check_members-loop-left
-decreases-check_members-loop-left l = l.left
+abbrev pub invariant-check_members-loop : goal.invariant-check_members-loop
+invariant-check_members-loop l = Going l.s l.levels (names_on l.s (entries l.path)) l.n l.at l.counter l.p l.fault l.heads
 
 abbrev pub decreases-check_within : goal.decreases-check_within
 decreases-check_within l = 2 * l.levels

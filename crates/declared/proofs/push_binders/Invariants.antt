@@ -4,8 +4,5 @@ use Rattle.declared.specs.Symbols.{named}
 use Rattle.declared.proofs.Collecting.{Walking}
 use Rattle.declared.proofs.push_binders.Given as goal
 
-abbrev pub invariant-loop-left : goal.invariant-loop-left
-invariant-loop-left l = Walking (named l.kind) (binder l.levels) l.s l.initial.table l.n l.at l.table l.left l.p
-
-abbrev pub decreases-loop-left : goal.decreases-loop-left
-decreases-loop-left l = l.left
+abbrev pub invariant-loop : goal.invariant-loop
+invariant-loop l = Walking (named l.kind) (binder l.levels) l.s l.initial.table l.n l.at l.table l.counter l.p

@@ -1,12 +1,6 @@
--- `push_name`: there is a name, or there is none.
-use Rattle.declared.proofs.Collecting.{no_name, name_collected}
+-- `push_name`: the name is pushed.
+use Rattle.declared.proofs.Collecting.{name_collected}
 use Rattle.declared.proofs.push_name.Goals as goal
 
-pub returns-in_default : goal.returns-in_default
-returns-in_default c = no_name _ _ _ _ c.read_name-name.ensures c.args.kind _ c.requires c.in_default.is
-
-pub push-requires : goal.push-requires
-push-requires c = c.requires.chained
-
 pub returns : goal.returns
-returns c = name_collected _ _ _ _ c.read_name-name.ensures _ _ c.in-At.is c.requires c.args.kind _ c.push.ensures
+returns c = name_collected _ _ _ c.requires _ _ c.in-Ok.ensures c.args.kind _ c.push.ensures

@@ -2,7 +2,6 @@
 -- those in it.
 use mathlib.Core.Path.{◌≡◌}
 use Prim.Native.Nat.{◌+◌, ◌*◌}
-use lib.ListN.{length}
 use Rattle.path.specs.Offsets.{entries}
 use Rattle.smt_sort.specs.Section.{encoder_in}
 use Rattle.assertion.specs.Under.{on_path}
@@ -22,8 +21,8 @@ decreases-flatten_members l = 2 * l.levels + 1
 
 abbrev pub invariant-flatten_members-loop-left : goal.invariant-flatten_members-loop-left
 invariant-flatten_members-loop-left l =
-    Members (encoder_in l.s l.enc) (on_path l.s (entries l.path)) l.levels l.s l.initial.left l.initial.moved.at (writing l.initial.moved.progress l.initial.buf l.initial.lengths) l.left l.moved.at (writing l.moved.progress l.buf l.lengths)
-    × (l.kept ≡ l.initial.kept) × Stays l.initial.kept l.initial.text l.text × (length l.buf ≡ length l.initial.buf) × (length l.lengths ≡ length l.initial.lengths)
+    Members (encoder_in l.s l.enc) (on_path l.s (entries l.path)) l.levels l.s l.initial.left l.initial.from.moved.at (writing l.initial.from.moved.progress l.initial.buf l.initial.lengths) l.left l.from.moved.at (writing l.from.moved.progress l.buf l.lengths)
+    × (l.from.kept ≡ l.initial.from.kept) × Stays l.initial.from.kept l.initial.text l.text
 
 abbrev pub decreases-flatten_members-loop-left : goal.decreases-flatten_members-loop-left
 decreases-flatten_members-loop-left l =

@@ -1,48 +1,20 @@
 -- check_items walks the sections front to back.
+use native.Mathlib.Omega.{arith}
 use Rattle.item_check.specs.declared.Section.TheVariants.{Comments, Datatypes, Constants, Functions, KVars}
-use Rattle.inspect.proofs.Whole.{section_most, stops_0, stops_1, stops_2, stops_3, stops_4, all_five}
+use Rattle.inspect.proofs.Whole.{section_most, all_five}
 use Rattle.inspect.proofs.check_items.Goals as goal
 
-pub check_part-comments-requires : goal.check_part-comments-requires
-check_part-comments-requires c = c.requires.datatypes
+pub overflow_add-result : goal.overflow_add-result
+overflow_add-result c = let h3 = section_most Functions c.args.file.now c.args.b.kvars c.args.b.functions _ _ c.requires.most c.in_ok-n3.ensures in let h4 = section_most KVars c.args.file.now c.args.b.constraint c.args.b.kvars _ _ c.requires.most c.in_ok-n4.ensures in omega arith
 
-pub returns-in_default : goal.returns-in_default
-returns-in_default c = search stops_0
+pub overflow_add-result-2 : goal.overflow_add-result-2
+overflow_add-result-2 c = let h2 = section_most Constants c.args.file.now c.args.b.functions c.args.b.constants _ _ c.requires.most c.in_ok-n2.ensures in let h3 = section_most Functions c.args.file.now c.args.b.kvars c.args.b.functions _ _ c.requires.most c.in_ok-n3.ensures in let h4 = section_most KVars c.args.file.now c.args.b.constraint c.args.b.kvars _ _ c.requires.most c.in_ok-n4.ensures in omega arith
 
-pub check_part-datatypes-requires : goal.check_part-datatypes-requires
-check_part-datatypes-requires c = c.requires.constants
+pub overflow_add-result-3 : goal.overflow_add-result-3
+overflow_add-result-3 c = let h1 = section_most Datatypes c.args.file.now c.args.b.constants c.args.b.datatypes _ _ c.requires.most c.in_ok-n1.ensures in let h2 = section_most Constants c.args.file.now c.args.b.functions c.args.b.constants _ _ c.requires.most c.in_ok-n2.ensures in let h3 = section_most Functions c.args.file.now c.args.b.kvars c.args.b.functions _ _ c.requires.most c.in_ok-n3.ensures in let h4 = section_most KVars c.args.file.now c.args.b.constraint c.args.b.kvars _ _ c.requires.most c.in_ok-n4.ensures in omega arith
 
-pub returns-in_default-datatypes : goal.returns-in_default-datatypes
-returns-in_default-datatypes c = search stops_1
-
-pub check_part-constants-requires : goal.check_part-constants-requires
-check_part-constants-requires c = c.requires.functions
-
-pub returns-in_default-constants : goal.returns-in_default-constants
-returns-in_default-constants c = search stops_2
-
-pub check_part-functions-requires : goal.check_part-functions-requires
-check_part-functions-requires c = c.requires.kvars
-
-pub returns-in_default-functions : goal.returns-in_default-functions
-returns-in_default-functions c = search stops_3
-
-pub check_part-kvars-requires : goal.check_part-kvars-requires
-check_part-kvars-requires c = c.requires.constraint
-
-pub returns-in_default-kvars : goal.returns-in_default-kvars
-returns-in_default-kvars c = search stops_4
-
-pub total-requires : goal.total-requires
-total-requires c = (
-  section_most Comments c.args.file.now c.args.b.datatypes c.args.b.comments _ _ _ c.requires.most c.check_part-comments.ensures c.in-Items.is,
-  section_most Datatypes c.args.file.now c.args.b.constants c.args.b.datatypes _ _ _ c.requires.most c.check_part-datatypes.ensures c.in-Items-datatypes.is,
-  section_most Constants c.args.file.now c.args.b.functions c.args.b.constants _ _ _ c.requires.most c.check_part-constants.ensures c.in-Items-constants.is,
-  section_most Functions c.args.file.now c.args.b.kvars c.args.b.functions _ _ _ c.requires.most c.check_part-functions.ensures c.in-Items-functions.is,
-  section_most KVars c.args.file.now c.args.b.constraint c.args.b.kvars _ _ _ c.requires.most c.check_part-kvars.ensures c.in-Items-kvars.is,
-)
+pub overflow_add-result-4 : goal.overflow_add-result-4
+overflow_add-result-4 c = let h0 = section_most Comments c.args.file.now c.args.b.datatypes c.args.b.comments _ _ c.requires.most c.in_ok-n0.ensures in let h1 = section_most Datatypes c.args.file.now c.args.b.constants c.args.b.datatypes _ _ c.requires.most c.in_ok-n1.ensures in let h2 = section_most Constants c.args.file.now c.args.b.functions c.args.b.constants _ _ c.requires.most c.in_ok-n2.ensures in let h3 = section_most Functions c.args.file.now c.args.b.kvars c.args.b.functions _ _ c.requires.most c.in_ok-n3.ensures in let h4 = section_most KVars c.args.file.now c.args.b.constraint c.args.b.kvars _ _ c.requires.most c.in_ok-n4.ensures in omega arith
 
 pub returns : goal.returns
-returns c = all_five c.args.file.now c.args.b _ c.check_part-comments.ensures _ _ c.in-Items.is _ c.check_part-datatypes.ensures _ _ c.in-Items-datatypes.is
-    _ c.check_part-constants.ensures _ _ c.in-Items-constants.is _ c.check_part-functions.ensures _ _ c.in-Items-functions.is
-    _ c.check_part-kvars.ensures _ _ _ _ c.in-Items-kvars.is c.total.ensures c.lowest.ensures
+returns c = all_five c.args.file.now c.args.b _ _ c.in_ok-n0.ensures _ _ c.in_ok-n1.ensures _ _ c.in_ok-n2.ensures _ _ c.in_ok-n3.ensures _ _ _ _ _ _ c.in_ok-n4.ensures c.lower.ensures c.lower-2.ensures c.lower-3.ensures c.lower-fault.ensures

@@ -1,18 +1,19 @@
--- check_ctors walks the constructors in a row.
+-- check_ctors walks the pieces in a row.
 use Rattle.task.specs.Decode.{data_ctor}
 use Rattle.task.specs.Fault.{data_ctor_fault}
-use Rattle.task_check.proofs.Rows.{after_sound, row_goes, row_stops, row_ends}
 use Rattle.task_check.proofs.Exprs.{each_fold}
+use Rattle.std.proofs.Common.{rules}
+use Rattle.task_check.proofs.Rows.{row_starts, row_goes, row_stops, row_ends}
 use Rattle.item_check.proofs.check_ctors.Goals as goal
 
-pub loop-left-init : goal.loop-left-init
-loop-left-init c = after_sound _
+pub loop-init : goal.loop-init
+loop-init c = row_starts (each_fold data_ctor_fault) data_ctor _ _ _
 
-pub returns-in_default : goal.returns-in_default
-returns-in_default c = row_stops (each_fold data_ctor_fault) data_ctor _ _ _ _ _ _ _ c.loop-left-test.true c.check_ctor-one.ensures c.in_default.is c.loop-left.invariant
+pub loop-preserved : goal.loop-preserved
+loop-preserved c = rw c.lower-fault.ensures (row_goes (each_fold data_ctor_fault) data_ctor _ _ _ _ _ _ _ _ c.loop-test.true c.in_ok-f.ensures c.loop.invariant)
 
-pub loop-left-preserved : goal.loop-left-preserved
-loop-left-preserved c = row_goes (each_fold data_ctor_fault) data_ctor _ _ _ _ _ _ _ _ _ c.loop-left-test.true c.check_ctor-one.ensures c.in-Next.is c.lower-fault.ensures c.loop-left.invariant
+pub returns-in_err-f : goal.returns-in_err-f
+returns-in_err-f c = let h = row_stops (each_fold data_ctor_fault) data_ctor _ _ _ _ _ _ _ c.loop-test.true c.in_err-f.ensures c.loop.invariant in search rules
 
 pub returns : goal.returns
-returns c = row_ends (each_fold data_ctor_fault) data_ctor _ _ _ _ _ c.loop-left-test.false c.loop-left.invariant
+returns c = row_ends (each_fold data_ctor_fault) data_ctor _ _ _ _ _ _ c.loop-test.false c.loop.invariant

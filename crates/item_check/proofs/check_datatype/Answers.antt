@@ -2,14 +2,7 @@
 use Rattle.item_check.proofs.Walks.{datatype_walks}
 use Rattle.item_check.proofs.check_datatype.Goals as goal
 
-pub returns-in_default : goal.returns-in_default
-returns-in_default c = rw (c.read_name-name.ensures, c.in_default.is)
-
-pub returns-in_default-vars : goal.returns-in_default-vars
-returns-in_default-vars c = rw (c.read_name-name.ensures, c.in-At.is, c.number_at-vars.ensures, c.in_default-vars.is)
-
-pub returns-in_default-count : goal.returns-in_default-count
-returns-in_default-count c = rw (c.read_name-name.ensures, c.in-At.is, c.number_at-vars.ensures, c.in-Value.is, c.number_at-count.ensures, c.in_default-count.is)
-
 pub returns : goal.returns
-returns c = search datatype_walks
+returns c =
+    datatype_walks _ _ _ _ _ _ _ _ _ c.in_ok-x.ensures c.in_ok-q.ensures c.name_fault.ensures _ _ _ _ c.in_ok-n.ensures c.empty_fault.ensures c.lower-fault.ensures
+    c.check_ctors.ensures c.after.ensures

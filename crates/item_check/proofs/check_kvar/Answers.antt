@@ -2,11 +2,5 @@
 use Rattle.item_check.proofs.Walks.{kvar_walks}
 use Rattle.item_check.proofs.check_kvar.Goals as goal
 
-pub returns-in_default : goal.returns-in_default
-returns-in_default c = rw (c.read_name-name.ensures, c.in_default.is)
-
-pub returns-in_default-count : goal.returns-in_default-count
-returns-in_default-count c = rw (c.read_name-name.ensures, c.in-At.is, c.number_at-count.ensures, c.in_default-count.is)
-
 pub returns : goal.returns
-returns c = search kvar_walks
+returns c = kvar_walks _ _ _ _ _ _ _ _ _ c.in_ok-x.ensures c.in_ok-n.ensures c.name_fault.ensures c.check_sorts.ensures c.after.ensures

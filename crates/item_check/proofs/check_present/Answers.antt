@@ -1,12 +1,6 @@
 -- check_present walks counted names and an expression.
-use Rattle.item_check.proofs.Walks.{body_uncounted, body_names_stop, body_walks}
+use Rattle.item_check.proofs.Walks.{body_walks}
 use Rattle.item_check.proofs.check_present.Goals as goal
 
-pub returns-in_default : goal.returns-in_default
-returns-in_default c = search body_uncounted
-
-pub returns-in_default-names : goal.returns-in_default-names
-returns-in_default-names c = search body_names_stop
-
 pub returns : goal.returns
-returns c = search body_walks
+returns c = body_walks _ _ _ _ _ c.in_ok-n.ensures _ _ _ _ _ _ c.in_ok-f.ensures c.arity_fault.ensures c.lower-fault.ensures c.check_expr.ensures c.after.ensures

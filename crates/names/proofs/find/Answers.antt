@@ -3,17 +3,8 @@ use native.Mathlib.Omega.{arith}
 use Rattle.names.proofs.Chains.{follow_start, follow_room, follow_named, follow_found, follow_on, follow_down, follow_end, by_kinds}
 use Rattle.names.proofs.find.Goals as goal
 
-pub overflow_add-h : goal.overflow_add-h
-overflow_add-h c = let r = c.hash-h.ensures.1 in omega arith
-
-pub offset_bounds-table-h : goal.offset_bounds-table-h
-offset_bounds-table-h c = let r = c.requires.room in omega (arith, c.hash-h.ensures.1)
-
-pub bounds-table-h : goal.bounds-table-h
-bounds-table-h c = let r = c.requires.room in omega (arith, c.hash-h.ensures.1)
-
 pub loop-link-init : goal.loop-link-init
-loop-link-init c = follow_start _ _ _ _ _ _ c.requires _ _ c.hash-h.ensures c.word-link.ensures.0
+loop-link-init c = follow_start _ _ _ _ _ _ c.requires _ _ c.hash-h.ensures c.from-link.ensures
 
 pub is_entry-requires : goal.is_entry-requires
 is_entry-requires c = record { within = follow_room _ _ _ _ _ _ c.requires _ c.loop-link.invariant c.loop-link-test.true; named = follow_named _ _ _ _ _ _ c.requires _ c.loop-link.invariant c.loop-link-test.true }
@@ -34,10 +25,10 @@ pub bounds-table-k : goal.bounds-table-k
 bounds-table-k c = let r = follow_room _ _ _ _ _ _ c.requires _ c.loop-link.invariant c.loop-link-test.true in omega arith
 
 pub loop-link-smaller : goal.loop-link-smaller
-loop-link-smaller c = follow_down _ _ _ _ _ _ c.requires _ c.loop-link.invariant c.loop-link-test.true _ c.word-link-in-loop-link.ensures.0
+loop-link-smaller c = follow_down _ _ _ _ _ _ c.requires _ c.loop-link.invariant c.loop-link-test.true _ c.from-link-in-loop-link.ensures
 
 pub loop-link-preserved : goal.loop-link-preserved
-loop-link-preserved c = follow_on _ _ _ _ _ _ c.requires _ c.loop-link.invariant c.loop-link-test.true _ c.word-link-in-loop-link.ensures.0 _ c.is_entry.ensures c.if-is_entry.false
+loop-link-preserved c = follow_on _ _ _ _ _ _ c.requires _ c.loop-link.invariant c.loop-link-test.true _ c.from-link-in-loop-link.ensures _ c.is_entry.ensures c.if-is_entry.false
 
 pub returns : goal.returns
 returns c = by_kinds _ _ _ _ _ _ _ c.number_of-low.ensures c.number_of-high.ensures (follow_end _ _ _ _ _ _ c.requires _ c.loop-link.invariant c.loop-link-test.false)

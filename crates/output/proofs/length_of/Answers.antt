@@ -5,4 +5,4 @@ use Rattle.output.proofs.length_of.Goals as goal
 
 pub returns : goal.returns
 unfolding names length_of
-returns c = c.wide.ensures ∙ measured c.args.i c.requires
+returns c = c.from.ensures ∙ measured c.args.i c.requires

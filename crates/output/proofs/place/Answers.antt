@@ -5,4 +5,4 @@ use Rattle.output.proofs.place.Goals as goal
 
 pub returns : goal.returns
 unfolding names place_of
-returns c = c.wide.ensures ∙ placed c.args.i c.requires
+returns c = c.from.ensures ∙ placed c.args.i c.requires

@@ -3,14 +3,7 @@ use mathlib.Core.Path.{sym, ◌∙◌}
 use native.Mathlib.Omega.{arith}
 use Rattle.parts.specs.Whole.{itself}
 use Rattle.flatten.proofs.Lending.{part_in}
-use Rattle.parts.proofs.Placing.{item_out, item_refused}
 use Rattle.parts.proofs.put_item.Goals as goal
 
 pub returns-then-has_next : goal.returns-then-has_next
-returns-then-has_next c = part_in itself _ _ _ _ _ _ _ _ _ _ _ (sym c.has_next.ensures ∙ c.if-has_next.true) c.least-start.ensures c.new.ensures (let g = c.well_formed in omega arith) c.write_item-sent.ensures c.placed.ensures
-
-pub returns-in_default : goal.returns-in_default
-returns-in_default c = item_refused _ _ _ _ _ c.check_item-walked.ensures _ _ _ _ c.in_default.is
-
-pub returns : goal.returns
-returns c = item_out _ _ _ _ _ c.check_item-walked.ensures _ _ _ _ _ _ (sym c.has_next.ensures ∙ c.if-has_next.false) c.in-Next.is c.passed.ensures
+returns-then-has_next c = part_in itself _ _ _ _ _ _ _ _ _ _ _ (sym c.has_next.ensures ∙ c.if-has_next.true) c.min-start.ensures c.new.ensures (let g = c.well_formed in omega arith) c.write_item-sent.ensures c.placed.ensures

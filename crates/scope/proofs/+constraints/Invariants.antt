@@ -16,11 +16,8 @@ decreases-scope_for_all l = 3 * l.levels + 2
 abbrev pub decreases-scope_members : goal.decreases-scope_members
 decreases-scope_members l = 3 * l.levels + 1
 
-abbrev pub invariant-scope_members-loop-left : goal.invariant-scope_members-loop-left
-invariant-scope_members-loop-left l = Along (λ t. constraint_in l.s t) (λ t. constraints_in l.s t) (members_fold l.s) (dec_constraint l.levels) (each_covers.constraints l.levels) l.s (constraint_kept l.s) l.initial.table l.n l.at l.table l.left l.p l.fault
-
-abbrev pub decreases-scope_members-loop-left : goal.decreases-scope_members-loop-left
-decreases-scope_members-loop-left l = l.left
+abbrev pub invariant-scope_members-loop : goal.invariant-scope_members-loop
+invariant-scope_members-loop l = Along (λ t. constraint_in l.s t) (λ t. constraints_in l.s t) (members_fold l.s) (dec_constraint l.levels) (each_covers.constraints l.levels) l.s (constraint_kept l.s) l.initial.table l.n l.at l.table l.counter l.p l.fault
 
 abbrev pub decreases-scope_under : goal.decreases-scope_under
 decreases-scope_under l = 3 * l.levels + 1

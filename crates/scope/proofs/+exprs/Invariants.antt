@@ -16,11 +16,8 @@ decreases-scope_expr l = 3 * l.levels
 abbrev pub decreases-scope_exprs : goal.decreases-scope_exprs
 decreases-scope_exprs l = 3 * l.levels + 1
 
-abbrev pub invariant-scope_exprs-loop-left : goal.invariant-scope_exprs-loop-left
-invariant-scope_exprs-loop-left l = Along (λ t. expr_in l.s t) (λ t. exprs_in l.s t) (exprs_fold l.s) (dec_expr l.levels) (each_covers.exprs l.levels) l.s (expr_kept l.s) l.initial.table l.n l.at l.table l.left l.p l.fault
-
-abbrev pub decreases-scope_exprs-loop-left : goal.decreases-scope_exprs-loop-left
-decreases-scope_exprs-loop-left l = l.left
+abbrev pub invariant-scope_exprs-loop : goal.invariant-scope_exprs-loop
+invariant-scope_exprs-loop l = Along (λ t. expr_in l.s t) (λ t. exprs_in l.s t) (exprs_fold l.s) (dec_expr l.levels) (each_covers.exprs l.levels) l.s (expr_kept l.s) l.initial.table l.n l.at l.table l.counter l.p l.fault
 
 abbrev pub decreases-scope_let : goal.decreases-scope_let
 decreases-scope_let l = 3 * l.levels + 1

@@ -7,8 +7,5 @@ use Rattle.scope.proofs.Tables.{Along}
 use Rattle.scope.proofs.Preds.{preds_fold, pred_kept}
 use Rattle.scope.proofs.scope_preds.Given as goal
 
-abbrev pub invariant-loop-left : goal.invariant-loop-left
-invariant-loop-left l = Along (λ t. pred_in l.s t) (λ t. each (pred_in l.s t)) (preds_fold l.s) (dec_pred l.levels) (each_covers.preds l.levels) l.s (pred_kept l.s) l.initial.table l.n l.at l.table l.left l.p l.fault
-
-abbrev pub decreases-loop-left : goal.decreases-loop-left
-decreases-loop-left l = l.left
+abbrev pub invariant-loop : goal.invariant-loop
+invariant-loop l = Along (λ t. pred_in l.s t) (λ t. each (pred_in l.s t)) (preds_fold l.s) (dec_pred l.levels) (each_covers.preds l.levels) l.s (pred_kept l.s) l.initial.table l.n l.at l.table l.counter l.p l.fault

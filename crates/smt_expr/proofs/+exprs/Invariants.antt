@@ -1,11 +1,9 @@
 -- The cycle of the expression writers meets its contracts; the levels left fall.
 use Prim.Native.Nat.{◌+◌, ◌*◌}
-use mathlib.Core.Path.{◌≡◌}
-use lib.ListN.{length}
 use Rattle.task.specs.Decode.{dec_expr}
 use Rattle.output.specs.Emit.{output}
-use Rattle.output.proofs.Sending.{Owes}
 use Rattle.smt_sort.specs.Section.{encoder_in}
+use Rattle.smt_sort.proofs.Rows.{Owes}
 use Rattle.smt_expr.proofs.Exprs.{exprs_row}
 use Rattle.smt_expr.proofs.+exprs.Given as goal
 
@@ -18,9 +16,6 @@ decreases-write_application_head l = 6 * l.levels + 1
 abbrev pub decreases-write_atom : goal.decreases-write_atom
 decreases-write_atom l = 6 * l.levels + 3
 
-abbrev pub decreases-write_bin_op : goal.decreases-write_bin_op
-decreases-write_bin_op l = 6 * l.levels + 2
-
 abbrev pub decreases-write_binary : goal.decreases-write_binary
 decreases-write_binary l = 6 * l.levels + 1
 
@@ -30,11 +25,8 @@ decreases-write_expr l = 6 * l.levels
 abbrev pub decreases-write_exprs : goal.decreases-write_exprs
 decreases-write_exprs l = 6 * l.levels + 1
 
-abbrev pub invariant-write_exprs-loop-left : goal.invariant-write_exprs-loop-left
-invariant-write_exprs-loop-left l = Owes (exprs_row (encoder_in l.s l.enc)) (dec_expr l.levels) l.s l.n l.at (output l.initial.buf l.initial.sent.len) l.left l.p (output l.buf l.sent.len) × (length l.buf ≡ length l.initial.buf)
-
-abbrev pub decreases-write_exprs-loop-left : goal.decreases-write_exprs-loop-left
-decreases-write_exprs-loop-left l = l.left
+abbrev pub invariant-write_exprs-loop : goal.invariant-write_exprs-loop
+invariant-write_exprs-loop l = Owes (exprs_row (encoder_in l.s l.enc)) (dec_expr l.levels) l.s l.n l.at (output l.initial.buf l.initial.sent.len) l.counter l.p (output l.buf l.sent.len)
 
 abbrev pub decreases-write_is_ctor : goal.decreases-write_is_ctor
 decreases-write_is_ctor l = 6 * l.levels + 1

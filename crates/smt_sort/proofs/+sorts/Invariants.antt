@@ -1,11 +1,9 @@
 -- The cycle of the sort writers meets its contracts; the levels left fall.
 use Prim.Native.Nat.{◌+◌, ◌*◌}
-use mathlib.Core.Path.{◌≡◌}
-use lib.ListN.{length}
 use Rattle.task.specs.Decode.{dec_sort}
 use Rattle.output.specs.Emit.{output}
-use Rattle.output.proofs.Sending.{Owes}
 use Rattle.smt_sort.specs.Section.{encoder_in}
+use Rattle.smt_sort.proofs.Rows.{Owes}
 use Rattle.smt_sort.proofs.Sorts.{sorts_row}
 use Rattle.smt_sort.proofs.+sorts.Given as goal
 
@@ -27,8 +25,5 @@ decreases-write_sort l = 4 * l.levels
 abbrev pub decreases-write_sorts : goal.decreases-write_sorts
 decreases-write_sorts l = 4 * l.levels + 1
 
-abbrev pub invariant-write_sorts-loop-left : goal.invariant-write_sorts-loop-left
-invariant-write_sorts-loop-left l = Owes (sorts_row (encoder_in l.s l.enc)) (dec_sort l.levels) l.s l.n l.at (output l.initial.buf l.initial.sent.len) l.left l.p (output l.buf l.sent.len) × (length l.buf ≡ length l.initial.buf)
-
-abbrev pub decreases-write_sorts-loop-left : goal.decreases-write_sorts-loop-left
-decreases-write_sorts-loop-left l = l.left
+abbrev pub invariant-write_sorts-loop : goal.invariant-write_sorts-loop
+invariant-write_sorts-loop l = Owes (sorts_row (encoder_in l.s l.enc)) (dec_sort l.levels) l.s l.n l.at (output l.initial.buf l.initial.sent.len) l.counter l.p (output l.buf l.sent.len)

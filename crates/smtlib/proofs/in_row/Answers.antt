@@ -1,15 +1,15 @@
--- `in_row` meets its contract: the word is none of the pieces before `at` (`Searching`).
-use Rattle.smtlib.proofs.Words.{search_start, search_found, search_step, search_end}
+-- `in_row`: `chunks_exact` gives the pieces with the byte behind each, and `any` looks at them.
+use mathlib.Core.Path.{◌∙◌}
+use native.Mathlib.Omega.{arith}
+use lib.ListN.{length}
+use mathlib.Core.List.{[]}
+use Rattle.std.proofs.Common.{rules}
+use Rattle.std.proofs.lemmas.Iterator.Search.{any_from_yields_List}
+use Rattle.smtlib.proofs.Words.{own_is, begins_one, chunks_yield}
 use Rattle.smtlib.proofs.in_row.Goals as goal
 
-pub loop-at-init : goal.loop-at-init
-loop-at-init c = search search_start
-
-pub returns-then-same_bytes : goal.returns-then-same_bytes
-returns-then-same_bytes c = search search_found
-
-pub loop-at-preserved : goal.loop-at-preserved
-loop-at-preserved c = search_step _ _ _ _ _ c.loop-at.invariant c.loop-at-test.true c.same_bytes.ensures c.if-same_bytes.false
-
 pub returns : goal.returns
-returns c = search search_end
+returns c =
+    any_from_yields_List (own_is c.args.word.now) _ _ _ c.any.ensures.ran
+    (chunks_yield (length c.args.word.now) _ _ c.chunks_exact.ensures.rest (omega (arith, c.chunks_exact.ensures.size))) (λ x b q k. search rules)
+    ∙ begins_one c.args.word.now (length c.args.word.now) [] c.args.row.now (omega arith)

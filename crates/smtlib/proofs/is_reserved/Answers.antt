@@ -1,13 +1,8 @@
 -- `is_reserved` meets its contract: the row of the words of its length is searched whole.
-use mathlib.Core.Path.{refl}
+use native.Mathlib.Omega.{arith}
 use Rattle.smtlib.specs.Lexicon.{reserved_words}
-use Rattle.smtlib.proofs.Entries.{beyond}
-use Rattle.smtlib.proofs.Words.{reserved_row, reserved_long}
+use Rattle.smtlib.proofs.Words.{reserved_row, reserved_other}
 use Rattle.smtlib.proofs.is_reserved.Goals as goal
-
-pub returns-in-0 : goal.returns-in-0
-unfolding reserved_words
-returns-in-0 c = reserved_row 0 c.args.word.now _ c.in-0.is refl
 
 pub returns-in-1 : goal.returns-in-1
 unfolding reserved_words
@@ -81,17 +76,9 @@ pub returns-in-18 : goal.returns-in-18
 unfolding reserved_words
 returns-in-18 c = reserved_row 18 c.args.word.now _ c.in-18.is c.in_row-in-18.ensures
 
-pub returns-in-19 : goal.returns-in-19
-unfolding reserved_words
-returns-in-19 c = reserved_row 19 c.args.word.now _ c.in-19.is refl
-
-pub returns-in-20 : goal.returns-in-20
-unfolding reserved_words
-returns-in-20 c = reserved_row 20 c.args.word.now _ c.in-20.is refl
-
 pub returns-in-21 : goal.returns-in-21
 unfolding reserved_words
 returns-in-21 c = reserved_row 21 c.args.word.now _ c.in-21.is c.in_row-in-21.ensures
 
-pub returns-in-22-to-max : goal.returns-in-22-to-max
-returns-in-22-to-max c = reserved_long _ (beyond 22 _ c.before.in-22-to-max.in-22-to-max-own.rest)
+pub returns-in_default : goal.returns-in_default
+returns-in_default c = reserved_other c.args.word.now (λ a b. omega arith) (λ e. omega arith)

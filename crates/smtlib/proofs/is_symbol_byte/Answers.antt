@@ -1,9 +1,10 @@
--- `is_symbol_byte` meets its contract: a place below 128 holds a space exactly if its byte is no symbol byte.
-use Rattle.smtlib.proofs.Words.{byte_high, byte_low}
+-- `is_symbol_byte`: a place below 128 holds a space exactly if its byte is no symbol byte.
+use mathlib.Core.Path.{refl}
+use native.Mathlib.Omega.{arith}
+use Rattle.smtlib.specs.Table.{symbol_places}
+use Rattle.smtlib.proofs.Words.{byte_low}
 use Rattle.smtlib.proofs.is_symbol_byte.Goals as goal
 
-pub returns-then-b-gt127 : goal.returns-then-b-gt127
-returns-then-b-gt127 c = search byte_high
-
-pub returns : goal.returns
-returns c = search byte_low
+pub returns-then-b-lt128 : goal.returns-then-b-lt128
+unfolding symbol_places
+returns-then-b-lt128 c = byte_low _ c.args.b refl (omega arith)

@@ -1,9 +1,6 @@
--- number_at gives the number, or refuses where its bytes pass the end.
+-- number_at: what is left of the bytes, and the number in the others.
 use Rattle.task.proofs.Numbers.{Taken}
 use Rattle.task.proofs.number_at.Given as goal
 
-abbrev pub invariant-loop-i : goal.invariant-loop-i
-invariant-loop-i l = Taken l.s l.at l.k l.i l.value
-
-abbrev pub decreases-loop-i : goal.decreases-loop-i
-decreases-loop-i l = l.i
+abbrev pub invariant-loop-b : goal.invariant-loop-b
+invariant-loop-b l = Taken l.initial.b-iterator.iter.rest.now l.b-iterator.iter.rest.now l.value

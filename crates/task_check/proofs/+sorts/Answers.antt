@@ -1,29 +1,24 @@
--- check_sort and check_sorts walk as the decoder decodes: the levels left fall from a sort to the sorts in it.
+-- check_sorts walks the pieces in a row.
 use Rattle.task.specs.Decode.{dec_sort}
-use Rattle.task_check.proofs.Rows.{after_sound, row_goes, row_stops, row_ends}
-use Rattle.task_check.proofs.Sorts.{sorts_fold, sort_none, sort_row, sort_width, sort_refused}
+use Rattle.task_check.proofs.Sorts.{sorts_fold, sort_row, sort_width}
+use Rattle.std.proofs.Common.{rules}
+use Rattle.task_check.proofs.Rows.{row_starts, row_goes, row_stops, row_ends}
 use Rattle.task_check.proofs.+sorts.Goals as goal
 
-pub check_sort-returns-then-levels-eq0 : goal.check_sort-returns-then-levels-eq0
-check_sort-returns-then-levels-eq0 t c = search sort_none
+pub check_sorts-loop-init : goal.check_sorts-loop-init
+check_sorts-loop-init t c = row_starts sorts_fold (dec_sort _) _ _ _
 
-pub check_sort-returns-in-Row : goal.check_sort-returns-in-Row
-check_sort-returns-in-Row t c = search sort_row
+pub check_sorts-loop-preserved : goal.check_sorts-loop-preserved
+check_sorts-loop-preserved t c = rw c.lower-fault.ensures (row_goes sorts_fold (dec_sort _) _ _ _ _ _ _ _ _ c.loop-test.true c.in_ok-f.ensures c.loop.invariant)
 
-pub check_sort-returns-in-Width : goal.check_sort-returns-in-Width
-check_sort-returns-in-Width t c = search sort_width
-
-pub check_sort-returns-in-Refused : goal.check_sort-returns-in-Refused
-check_sort-returns-in-Refused t c = search sort_refused
-
-pub check_sorts-loop-left-init : goal.check_sorts-loop-left-init
-check_sorts-loop-left-init t c = after_sound _
-
-pub check_sorts-returns-in_default : goal.check_sorts-returns-in_default
-check_sorts-returns-in_default t c = row_stops sorts_fold (dec_sort _) _ _ _ _ _ _ _ c.loop-left-test.true c.check_sort-one.ensures c.in_default.is c.loop-left.invariant
-
-pub check_sorts-loop-left-preserved : goal.check_sorts-loop-left-preserved
-check_sorts-loop-left-preserved t c = row_goes sorts_fold (dec_sort _) _ _ _ _ _ _ _ _ _ c.loop-left-test.true c.check_sort-one.ensures c.in-Next.is c.lower-fault.ensures c.loop-left.invariant
+pub check_sorts-returns-in_err-f : goal.check_sorts-returns-in_err-f
+check_sorts-returns-in_err-f t c = let h = row_stops sorts_fold (dec_sort _) _ _ _ _ _ _ _ c.loop-test.true c.in_err-f.ensures c.loop.invariant in search rules
 
 pub check_sorts-returns : goal.check_sorts-returns
-check_sorts-returns t c = row_ends sorts_fold (dec_sort _) _ _ _ _ _ c.loop-left-test.false c.loop-left.invariant
+check_sorts-returns t c = row_ends sorts_fold (dec_sort _) _ _ _ _ _ _ c.loop-test.false c.loop.invariant
+
+pub check_sort-returns-in-Row : goal.check_sort-returns-in-Row
+check_sort-returns-in-Row t c = sort_row _ _ _ _ c.if-levels-eq0.false _ _ c.in_ok-node.ensures _ _ _ _ c.in-Row.ensures c.check_sorts.ensures c.after.ensures
+
+pub check_sort-returns-in-Width : goal.check_sort-returns-in-Width
+check_sort-returns-in-Width t c = sort_width _ _ _ _ c.if-levels-eq0.false _ _ c.in_ok-node.ensures _ _ _ c.in-Width.ensures c.check_sort.ensures c.after-in-Width.ensures

@@ -1,5 +1,5 @@
 -- check_sort and check_sorts walk as the decoder decodes: the levels left fall from a sort to the sorts in it.
-use Prim.Native.Nat.{◌+◌, ◌*◌}
+use Prim.Native.Nat.{◌+◌, ◌*◌, ◌-◌}
 use mathlib.Core.Path.{◌≡◌}
 use Rattle.task.specs.Ast.{Sorts}
 use Rattle.task.specs.Decode.{many, dec_sort}
@@ -13,8 +13,5 @@ decreases-check_sort l = 2 * l.levels
 abbrev pub decreases-check_sorts : goal.decreases-check_sorts
 decreases-check_sorts l = 2 * l.levels + 1
 
-abbrev pub invariant-check_sorts-loop-left : goal.invariant-check_sorts-loop-left
-invariant-check_sorts-loop-left l = after l.fault (walked sorts_fault (many Sorts.none Sorts.more (dec_sort l.levels) l.left l.s l.p)) ≡ walked sorts_fault (many Sorts.none Sorts.more (dec_sort l.levels) l.n l.s l.at)
-
-abbrev pub decreases-check_sorts-loop-left : goal.decreases-check_sorts-loop-left
-decreases-check_sorts-loop-left l = l.left
+abbrev pub invariant-check_sorts-loop : goal.invariant-check_sorts-loop
+invariant-check_sorts-loop l = after l.fault (walked sorts_fault (many Sorts.none Sorts.more (dec_sort l.levels) (l.n - l.counter) l.s l.p)) ≡ walked sorts_fault (many Sorts.none Sorts.more (dec_sort l.levels) l.n l.s l.at)

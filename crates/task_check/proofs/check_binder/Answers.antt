@@ -1,9 +1,6 @@
 -- check_binder walks a name and a sort.
-use Rattle.task_check.proofs.Exprs.{binder_refused, binder_walks}
+use Rattle.task_check.proofs.Exprs.{binder_walks}
 use Rattle.task_check.proofs.check_binder.Goals as goal
 
-pub returns-in_default : goal.returns-in_default
-returns-in_default c = search binder_refused
-
 pub returns : goal.returns
-returns c = search binder_walks
+returns c = binder_walks _ _ _ _ _ _ _ _ c.in_ok-x.ensures c.name_fault.ensures c.check_sort.ensures c.after.ensures

@@ -1,7 +1,0 @@
--- The part that is lent lies within the buffer.
-use native.Mathlib.Omega.{arith}
-use lib.ListN.{length-take}
-use Rattle.replay.proofs.fill_within.Goals as goal
-
-pub slice_bounds-fill-end-2 : goal.slice_bounds-fill-end-2
-slice_bounds-fill-end-2 c = simp length-take (omega arith)

@@ -1,0 +1,6 @@
+// Replays the recorded task files that its arguments name, those that take longest: crates/replaying tells how.
+#![tactic(auto)]
+
+fn main(rt: HostRuntime) {
+    replaying::replay_all(&rt);
+}
