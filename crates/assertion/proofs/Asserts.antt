@@ -18,7 +18,6 @@ use Rattle.smt_text.specs.Encoder.{Encoder}
 use Rattle.smt_text.specs.Text.{spaced, sexp_list, write_unary, write_binary, write_binder, write_expr, write_pred}
 use Rattle.horn_text.specs.Clauses.{ForAll, guards_of}
 use Rattle.horn_text.specs.Script.{write_preds, write_guard_conjunction, write_implication, write_assert}
-use Rattle.smt_sort.specs.Section.{encoder_in}
 use Rattle.output.specs.Emit.{Output, output, most, emits, Sends}
 use Rattle.output.proofs.Sent.{emits_append, emits_sets, sent_out}
 use Rattle.assertion.specs.declared.Form.{Form}
@@ -185,38 +184,38 @@ fits_both size k e =
 
 -- ASSERTIONS
 
-module _ (s enc : List ℕ) (l at r : ℕ) (n c : ℕ) (f : Form) (ef : f ≡ form_of s at n c) (o o1 o2 o3 o4 o5 : Output)
+module _ (s : List ℕ) (enc : Encoder) (l at r : ℕ) (n c : ℕ) (f : Form) (ef : f ≡ form_of s at n c) (o o1 o2 o3 o4 o5 : Output)
     (e1 : o1 ≡ emits o (opening_text f.bound)) (e3 : o3 ≡ emits o2 (implies_text f.bound))
-    (w : Sends (head_text (encoder_in s enc) f) (dec_pred l s at) o4 o5 r) where
+    (w : Sends (head_text enc f) (dec_pred l s at) o4 o5 r) where
   -- given what stands round the head
-  around : (fs : List ForAll) → ltb 0 n ≡ some fs → c ≡ length (guards_of fs) → o2 ≡ emits o1 (vars_text (encoder_in s enc) fs)
-      → o4 ≡ emits o3 (group_text f.kvar c ++ (guards_text (encoder_in s enc) fs ++ ungroup_text f.kvar c))
-      → Sends (assert_text (encoder_in s enc) fs) (dec_pred l s at) o o5 r
+  around : (fs : List ForAll) → ltb 0 n ≡ some fs → c ≡ length (guards_of fs) → o2 ≡ emits o1 (vars_text enc fs)
+      → o4 ≡ emits o3 (group_text f.kvar c ++ (guards_text enc fs ++ ungroup_text f.kvar c))
+      → Sends (assert_text enc fs) (dec_pred l s at) o o5 r
   unfolding Sends guards_text
   around fs eb ec e2 e4 p q h =
       let v = w p q h in
       let k : f ≡ form (is_kvar p) (some fs) c = ef ∙ rw (eb, kvar_is l s at p q h) in
-      (v.0, v.1 ∙ rw (e4, e3, e2, e1, k) (sym (whole (encoder_in s enc) c o fs p ec)))
+      (v.0, v.1 ∙ rw (e4, e3, e2, e1, k) (sym (whole enc c o fs p ec)))
 
   -- from the text that is kept
   pub kept_asserts : (text : List ℕ) (k : code.Kept) → fits (length text) k ≡ true → n ≡ k.vars → c ≡ k.count → o2 ≡ emits o1 (take k.vars text)
       → o4 ≡ emits o3 (group_text f.kvar k.count ++ (guards_in text k ++ ungroup_text f.kvar k.count))
-      → KeptSends s enc text k (dec_pred l s at) o o5 r
+      → KeptSends enc text k (dec_pred l s at) o o5 r
   unfolding KeptSends
   kept_asserts text k h en ec e2 e4 fs g =
       let v = ap (λ (z : code.Kept). z.vars) g.measures in
       let u = ap (λ (z : code.Kept). z.guards) g.measures in
       let room = fits_both (length text) k h in
-      let a : take k.vars text ≡ vars_text (encoder_in s enc) fs =
+      let a : take k.vars text ≡ vars_text enc fs =
       sym (take-take k.vars (length text / 2) text room.0) ∙ rw v (g.vars (rw length-take (omega (arith, room.0)))) in
-      let b : guards_in text k ≡ guards_text (encoder_in s enc) fs = rw u (g.guards (rw length-drop (omega (arith, room.1)))) in
-      around fs (rw en (vars_some (encoder_in s enc) fs k.vars v)) (ec ∙ ap (λ (z : code.Kept). z.count) g.measures) (e2 ∙ ap (emits o1) a)
+      let b : guards_in text k ≡ guards_text enc fs = rw u (g.guards (rw length-drop (omega (arith, room.1)))) in
+      around fs (rw en (vars_some enc fs k.vars v)) (ec ∙ ap (λ (z : code.Kept). z.count) g.measures) (e2 ∙ ap (emits o1) a)
       (e4 ∙ rw (b, ec))
 
   -- from a path
   pub long_asserts : (os : List ℕ) (o6 o7 : Output) → n ≡ length os → Numbers s os c
-      → Sends (vars_text (encoder_in s enc)) (on_path s os) o1 o2 0 → o6 ≡ emits o3 (group_text f.kvar c) → Sends (guards_text (encoder_in s enc)) (on_path s os) o6 o7 0
-      → o4 ≡ emits o7 (ungroup_text f.kvar c) → HeadSends (assert_text (encoder_in s enc)) (on_path s os) (dec_pred l s at) o o5 r
+      → Sends (vars_text enc) (on_path s os) o1 o2 0 → o6 ≡ emits o3 (group_text f.kvar c) → Sends (guards_text enc) (on_path s os) o6 o7 0
+      → o4 ≡ emits o7 (ungroup_text f.kvar c) → HeadSends (assert_text enc) (on_path s os) (dec_pred l s at) o o5 r
   unfolding HeadSends Sends Numbers
   long_asserts os o6 o7 en k u e6 w7 e4 fs q g =
       around fs (rw en (path_some s os fs q g)) (k fs q g) (u fs q g).1 (rw (e4, (w7 fs q g).1, e6) (simp emits_append))
@@ -226,16 +225,16 @@ sent_most : (t b b' : List ℕ) (n m : ℕ) → length b ≤ most → n ≤ most
 sent_most t b b' n m h g e = let l = ap (λ (x : Output). x.len) (e ∙ emits_sets t b n h g) in omega arith
 
 -- from the numbers that are kept: an empty buffer has no room, so of binders and guards their lengths alone matter
-pub measured_asserts : (s enc : List ℕ) (l at r : ℕ) (k : code.Kept) (f : Form) → f ≡ form_of s at k.vars k.count
+pub measured_asserts : (s : List ℕ) (enc : Encoder) (l at r : ℕ) (k : code.Kept) (f : Form) → f ≡ form_of s at k.vars k.count
     → (b b1 b2 b3 b4 b5 : List ℕ) (n n1 n2 n3 n4 n5 n6 n7 : ℕ) → n ≡ 0 → length b ≤ 0 → length b1 ≤ 0 → length b2 ≤ 0 → length b3 ≤ 0 → length b5 ≤ 0
     → output b1 n1 ≡ emits (output b n) (opening_text f.bound) → n2 ≡ min (n1 + k.vars) most
     → output b2 n3 ≡ emits (output b1 n2) (implies_text f.bound) → output b3 n4 ≡ emits (output b2 n3) (group_text f.kvar f.count)
     → n5 ≡ min (n4 + k.guards) most → output b4 n6 ≡ emits (output b3 n5) (ungroup_text f.kvar f.count)
-    → Sends (head_text (encoder_in s enc) f) (dec_pred l s at) (output b4 n6) (output b5 n7) r → MeasuredSends s enc k (dec_pred l s at) n7 r
+    → Sends (head_text enc f) (dec_pred l s at) (output b4 n6) (output b5 n7) r → MeasuredSends enc k (dec_pred l s at) n7 r
 unfolding MeasuredSends
 measured_asserts s enc l at r k f ef b b1 b2 b3 b4 b5 n n1 n2 n3 n4 n5 n6 n7 z h h1 h2 h3 h5 e1 e2 e3 e4 e5 e6 w fs m =
-    let v = vars_text (encoder_in s enc) fs in
-    let g = guards_text (encoder_in s enc) fs in
+    let v = vars_text enc fs in
+    let g = guards_text enc fs in
     let ev : k.vars ≡ length v = ap (λ (x : code.Kept). x.vars) m in
     let eg : k.guards ≡ length g = ap (λ (x : code.Kept). x.guards) m in
     let ec : f.count ≡ k.count = ap (λ (x : Form). x.count) ef in
@@ -245,5 +244,5 @@ measured_asserts s enc l at r k f ef b b1 b2 b3 b4 b5 n n1 n2 n3 n4 n5 n6 n7 z h
     let u2 : output b1 n2 ≡ emits (output b1 n1) v = sent_out v b1 n1 n2 (omega arith) m1 (e2 ∙ ap (λ (x : ℕ). min (n1 + x) most) ev) in
     let u5 : output b3 n5 ≡ emits (output b3 n4) g = sent_out g b3 n4 n5 (omega arith) m4 (e5 ∙ ap (λ (x : ℕ). min (n4 + x) most) eg) in
     let u = around s enc l at r k.vars k.count f ef (output b n) (output b1 n1) (output b1 n2) (output b2 n3) (output b4 n6) (output b5 n7) e1 e3 w fs
-    (vars_some (encoder_in s enc) fs k.vars ev) (ap (λ (x : code.Kept). x.count) m) u2 (rw (e6, u5, e4, ec) (simp emits_append)) in
+    (vars_some enc fs k.vars ev) (ap (λ (x : code.Kept). x.count) m) u2 (rw (e6, u5, e4, ec) (simp emits_append)) in
     rw (empty b h, empty b5 h5, z) at u

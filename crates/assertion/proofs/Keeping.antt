@@ -12,7 +12,6 @@ use Rattle.smt_text.specs.Encoder.{Encoder}
 use Rattle.smt_text.specs.Text.{write_binder}
 use Rattle.horn_text.specs.Clauses.{ForAll, kept, guards_of}
 use Rattle.horn_text.specs.Script.{write_preds}
-use Rattle.smt_sort.specs.Section.{encoder_in}
 use Rattle.output.specs.Emit.{output, most, Sends}
 use Rattle.output.proofs.Sent.{sent_lent}
 use Rattle.assertion.specs.declared.Kept as code
@@ -176,9 +175,9 @@ module _ (text ys : List ℕ) (ly : length ys ≡ length (take (length text / 2)
         let none : drop (length first - length text / 2) (drop (length text / 2) first) ≡ [] = rw (rest_is, first_size) (drop_of_length-le (guards_half text) {i = length text - length text / 2} (rw length-drop (omega arith))) in
         rw (none, append-nil zs, take_at ys (drop (length text / 2) text) (length text / 2) half_is)
 
-    pub extends : (s enc : List ℕ) (at : ℕ) (k : code.Kept) (v g c : ℕ)
-        → Stores (λ f. vars_text (encoder_in s enc) (f ∷ [])) (for_all_at s at) k.vars (take (length text / 2) text) ys v
-        → Stores (λ f. guards_text (encoder_in s enc) (f ∷ [])) (for_all_at s at) k.guards (take (length first - length text / 2) (drop (length text / 2) first)) zs g → Counts (for_all_at s at) c
+    pub extends : (s : List ℕ) (enc : Encoder) (at : ℕ) (k : code.Kept) (v g c : ℕ)
+        → Stores (λ f. vars_text enc (f ∷ [])) (for_all_at s at) k.vars (take (length text / 2) text) ys v
+        → Stores (λ f. guards_text enc (f ∷ [])) (for_all_at s at) k.guards (take (length first - length text / 2) (drop (length text / 2) first)) zs g → Counts (for_all_at s at) c
         → Extends s enc at k text second (record { vars = v; guards = g; count = c })
     unfolding Stores Counts Extends
     extends s enc at k v g c w u n f p e =

@@ -6,7 +6,6 @@ use Rattle.task.specs.Ast.{Pred}
 use Rattle.task.specs.Decode.{Res, got}
 use Rattle.smt_text.specs.Encoder.{Encoder}
 use Rattle.horn_text.specs.Clauses.{ForAll, guards_of}
-use Rattle.smt_sort.specs.Section.{encoder_in}
 use Rattle.output.specs.Emit.{Output, output, Sends}
 use Rattle.assertion.specs.declared.Kept as code
 use Rattle.assertion.specs.Under.{for_all_at, on_path, vars_text, guards_text, assert_text}
@@ -83,8 +82,8 @@ pub record Extended (enc : Encoder) (f : ForAll) (kept : code.Kept) (text text' 
   pub guards : guards_half text' ≡ sets (guards_half text) kept.guards (guards_text enc (f ∷ []))
 
 -- So it was with the ForAll at an offset, where one stands there.
-unfoldable pub Extends : List ℕ → List ℕ → ℕ → code.Kept → List ℕ → List ℕ → code.Kept → Type 0
-Extends s enc at kept text text' own = (f : ForAll) (p : ℕ) → for_all_at s at ≡ got f p → Extended (encoder_in s enc) f kept text text' own
+unfoldable pub Extends : List ℕ → Encoder → ℕ → code.Kept → List ℕ → List ℕ → code.Kept → Type 0
+Extends s enc at kept text text' own = (f : ForAll) (p : ℕ) → for_all_at s at ≡ got f p → Extended enc f kept text text' own
 
 -- HEADS
 
@@ -93,9 +92,9 @@ unfoldable pub Numbers : List ℕ → List ℕ → ℕ → Type 0
 Numbers s path n = (fs : List ForAll) (q : ℕ) → on_path s path ≡ got fs q → n ≡ length (guards_of fs)
 
 -- The assertion of a head under the ForAlls of which the numbers are kept was measured.
-unfoldable pub MeasuredSends : List ℕ → List ℕ → code.Kept → Res Pred → ℕ → ℕ → Type 0
-MeasuredSends s enc kept d len at = (fs : List ForAll) → kept ≡ measured (encoder_in s enc) fs → Sends (assert_text (encoder_in s enc) fs) d (output [] 0) (output [] len) at
+unfoldable pub MeasuredSends : Encoder → code.Kept → Res Pred → ℕ → ℕ → Type 0
+MeasuredSends enc kept d len at = (fs : List ForAll) → kept ≡ measured enc fs → Sends (assert_text enc fs) d (output [] 0) (output [] len) at
 
 -- That under the ForAlls of which the text is kept was sent.
-unfoldable pub KeptSends : List ℕ → List ℕ → List ℕ → code.Kept → Res Pred → Output → Output → ℕ → Type 0
-KeptSends s enc text kept d o o' at = (fs : List ForAll) → Keeps (encoder_in s enc) fs text kept → Sends (assert_text (encoder_in s enc) fs) d o o' at
+unfoldable pub KeptSends : Encoder → List ℕ → code.Kept → Res Pred → Output → Output → ℕ → Type 0
+KeptSends enc text kept d o o' at = (fs : List ForAll) → Keeps enc fs text kept → Sends (assert_text enc fs) d o o' at

@@ -8,13 +8,13 @@ ghost use Rattle.task.specs.Decode.{many, dec_pred, deepest};
 ghost use Rattle.task.specs.Run.{Runs};
 ghost use Rattle.path.specs.Offsets.{entries, Leaves};
 ghost use Rattle.output.specs.Emit.{output, most, emits, Sends};
-ghost use Rattle.names.specs.Table.{Chained};
-ghost use Rattle.smt_sort.specs.Section.{encoder_in};
+ghost use Rattle.smt_sort.specs.Section.{encoder_by};
 ghost use Rattle.assertion.specs.Under.{for_all_at, on_path, vars_text, guards_text, listing, lists, kvar_at, form_of, opening_text, implies_text, group_text, ungroup_text, before_text, behind_text, end_text, head_text, HeadSends, assert_text};
 ghost use Rattle.assertion.specs.Kept.{plus as plus_is, minus as minus_is, Within, fits as fits_in, guards_in, Stores, Counts, Extends, Numbers, MeasuredSends, KeptSends};
 
 use output::Out;
 use path::Path;
+use smt_sort::Encoder;
 use smt_word::Sent;
 
 // Guards in a row: where the next predicate stands, what was sent, and how many guards they are.
@@ -42,26 +42,26 @@ pub struct Kept {
 }
 
 // Sends the binders of the path, without a space between two.
-fn write_each_var(s: &[u8], path: Path, enc: &[u16], buf: &mut [u8], out: Out) -> Out
-    requires { Chained s.now enc.now × Leaves path 0 }
-    ensures { Sends (vars_text (encoder_in s.now enc.now)) (on_path s.now (entries path)) (output buf.old out.len) (output buf.new result.len) 0 }
+fn write_each_var(enc: Encoder, path: Path, buf: &mut [u8], out: Out) -> Out
+    requires { Leaves path 0 }
+    ensures { Sends (vars_text (encoder_by enc.entry)) (on_path enc.entry.file.now (entries path)) (output buf.old out.len) (output buf.new result.len) 0 }
 {
     let mut sent = out;
     for offset in path.offsets() {
-        let one = smt_sort::write_binder(s, path::position(*offset), 256, enc, buf, sent);
+        let one = smt_sort::write_binder(enc, usize::from(*offset), 256, buf, sent);
         sent = one.out;
     }
     sent
 }
 
 // Sends the next predicate with a space before it and counts it, unless it is literally true: three bytes that are passed over.
-fn write_guard(s: &[u8], from: Listed, enc: &[u16], buf: &mut [u8]) -> Listed
-    requires { Chained s.now enc.now × (from.count < most) }
-    ensures runs { Runs (λ w p. lists (encoder_in s.now enc.now) w (p ∷ [])) (dec_pred deepest s.now from.at) (listing buf.old from.out.len from.count) (listing buf.new result.out.len result.count) result.at }
+fn write_guard(enc: Encoder, from: Listed, buf: &mut [u8]) -> Listed
+    requires { from.count < most }
+    ensures runs { Runs (λ w p. lists (encoder_by enc.entry) w (p ∷ [])) (dec_pred deepest enc.entry.file.now from.at) (listing buf.old from.out.len from.count) (listing buf.new result.out.len result.count) result.at }
     ensures one_more { result.count ≤ from.count + 1 }
 {
     let Listed { at, out, count } = from;
-    if task_check::is_literally_true(s, at, 256) {
+    if task_check::is_literally_true(enc.file, at, 256) {
         return Listed {
             at: at + 3,
             out,
@@ -69,7 +69,7 @@ fn write_guard(s: &[u8], from: Listed, enc: &[u16], buf: &mut [u8]) -> Listed
         };
     }
     let spaced = out.byte(buf, b' ');
-    let one = smt_fmt::write_pred(s, at, 256, enc, buf, spaced);
+    let one = smt_fmt::write_pred(enc, at, 256, buf, spaced);
     Listed {
         at: one.at,
         out: one.out,
@@ -78,39 +78,37 @@ fn write_guard(s: &[u8], from: Listed, enc: &[u16], buf: &mut [u8]) -> Listed
 }
 
 // Sends and counts those of n predicates that are not literally true, a space before each.
-fn write_kept(s: &[u8], at: usize, n: u64, enc: &[u16], buf: &mut [u8], out: Out) -> Listed
-    requires { Chained s.now enc.now }
-    ensures { Runs (lists (encoder_in s.now enc.now)) (many [] ◌∷◌ (dec_pred deepest) n s.now at) (listing buf.old out.len 0) (listing buf.new result.out.len result.count) result.at }
+fn write_kept(enc: Encoder, at: usize, n: u64, buf: &mut [u8], out: Out) -> Listed
+    ensures { Runs (lists (encoder_by enc.entry)) (many [] ◌∷◌ (dec_pred deepest) n enc.entry.file.now at) (listing buf.old out.len 0) (listing buf.new result.out.len result.count) result.at }
 {
     let mut listed = Listed { at, out, count: 0 };
     for _ in 0..n {
-        listed = write_guard(s, listed, enc, buf);
+        listed = write_guard(enc, listed, buf);
     }
     listed
 }
 
 // Sends and counts those of the ForAll at an offset.
-fn write_own_guards(s: &[u8], at: usize, enc: &[u16], buf: &mut [u8], out: Out) -> Listed
-    requires { Chained s.now enc.now }
-    ensures { Runs (λ w f. lists (encoder_in s.now enc.now) w f.preds) (for_all_at s.now at) (listing buf.old out.len 0) (listing buf.new result.out.len result.count) 0 }
+fn write_own_guards(enc: Encoder, at: usize, buf: &mut [u8], out: Out) -> Listed
+    ensures { Runs (λ w f. lists (encoder_by enc.entry) w f.preds) (for_all_at enc.entry.file.now at) (listing buf.old out.len 0) (listing buf.new result.out.len result.count) 0 }
 {
-    let Ok((_, p)) = task_check::check_binder(s, at, 256) else {
+    let Ok((_, p)) = task_check::check_binder(enc.file, at, 256) else {
         return Listed { at, out, count: 0 };
     };
-    let Ok((n, q)) = task::number_at(s, p, 2) else {
+    let Ok((n, q)) = task::number_at(enc.file, p, 2) else {
         return Listed { at, out, count: 0 };
     };
-    write_kept(s, q, n, enc, buf, out)
+    write_kept(enc, q, n, buf, out)
 }
 
 // Sends those of the path.
-fn write_each_guard(s: &[u8], path: Path, enc: &[u16], buf: &mut [u8], out: Out) -> Out
-    requires { Chained s.now enc.now × Leaves path 0 }
-    ensures { Sends (guards_text (encoder_in s.now enc.now)) (on_path s.now (entries path)) (output buf.old out.len) (output buf.new result.len) 0 }
+fn write_each_guard(enc: Encoder, path: Path, buf: &mut [u8], out: Out) -> Out
+    requires { Leaves path 0 }
+    ensures { Sends (guards_text (encoder_by enc.entry)) (on_path enc.entry.file.now (entries path)) (output buf.old out.len) (output buf.new result.len) 0 }
 {
     let mut sent = out;
     for offset in path.offsets() {
-        let own = write_own_guards(s, path::position(*offset), enc, buf, sent);
+        let own = write_own_guards(enc, usize::from(*offset), buf, sent);
         sent = own.out;
     }
     sent
@@ -162,34 +160,34 @@ impl Kept {
 }
 
 // Puts the binder of the ForAll at an offset behind the first n bytes of a text, as far as there is room for it, and tells how long it is.
-fn keep_binder(s: &[u8], at: usize, enc: &[u16], text: &mut [u8], n: usize) -> usize
-    requires { Chained s.now enc.now × (length s.now < 65536) }
-    ensures { Stores (λ f. vars_text (encoder_in s.now enc.now) (f ∷ [])) (for_all_at s.now at) n text.old text.new result }
+fn keep_binder(enc: Encoder, at: usize, text: &mut [u8], n: usize) -> usize
+    requires { length enc.file.now < 65536 }
+    ensures { Stores (λ f. vars_text (encoder_by enc.entry) (f ∷ [])) (for_all_at enc.entry.file.now at) n text.old text.new result }
 {
     let start = n.min(text.len());
-    let sent = smt_sort::write_binder(s, at, 256, enc, &mut text[start..], Out::new());
+    let sent = smt_sort::write_binder(enc, at, 256, &mut text[start..], Out::new());
     sent.out.len
 }
 
 // The same with its guards.
-fn keep_guards(s: &[u8], at: usize, enc: &[u16], text: &mut [u8], n: usize) -> Listed
-    requires { Chained s.now enc.now × (length s.now < 65536) }
-    ensures stores { Stores (λ f. guards_text (encoder_in s.now enc.now) (f ∷ [])) (for_all_at s.now at) n text.old text.new result.out.len }
-    ensures counts { Counts (for_all_at s.now at) result.count }
+fn keep_guards(enc: Encoder, at: usize, text: &mut [u8], n: usize) -> Listed
+    requires { length enc.file.now < 65536 }
+    ensures stores { Stores (λ f. guards_text (encoder_by enc.entry) (f ∷ [])) (for_all_at enc.entry.file.now at) n text.old text.new result.out.len }
+    ensures counts { Counts (for_all_at enc.entry.file.now at) result.count }
 {
     let start = n.min(text.len());
-    write_own_guards(s, at, enc, &mut text[start..], Out::new())
+    write_own_guards(enc, at, &mut text[start..], Out::new())
 }
 
 // Measures what the ForAll at an offset has, and keeps as much of its text as there is room for, behind that of the ForAlls around it.
 #[tactic(auto, using(crate::proofs::Keeping::first_size, crate::proofs::Keeping::extends))]
-pub fn extend(s: &[u8], at: usize, enc: &[u16], text: &mut [u8], kept: Kept) -> Kept
-    requires { Chained s.now enc.now × (length s.now < 65536) }
-    ensures { Extends s.now enc.now at kept text.old text.new result }
+pub fn extend(enc: Encoder, at: usize, text: &mut [u8], kept: Kept) -> Kept
+    requires { length enc.file.now < 65536 }
+    ensures { Extends enc.entry.file.now (encoder_by enc.entry) at kept text.old text.new result }
 {
     let half = text.len() / 2;
-    let vars = keep_binder(s, at, enc, &mut text[..half], kept.vars);
-    let own = keep_guards(s, at, enc, &mut text[half..], kept.guards);
+    let vars = keep_binder(enc, at, &mut text[..half], kept.vars);
+    let own = keep_guards(enc, at, &mut text[half..], kept.guards);
     Kept {
         vars,
         guards: own.out.len,
@@ -298,20 +296,11 @@ fn close_assert(bound: bool, buf: &mut [u8], out: Out) -> Out
 
 // Sends the head at a position, and what closes the assertion.
 #[tactic(auto, using(crate::proofs::Asserts::head_sends))]
-fn write_head(
-    s: &[u8],
-    at: usize,
-    levels: usize,
-    form: Form,
-    enc: &[u16],
-    buf: &mut [u8],
-    out: Out,
-) -> Sent
-    requires { Chained s.now enc.now }
-    ensures { Sends (head_text (encoder_in s.now enc.now) form) (dec_pred levels s.now at) (output buf.old out.len) (output buf.new result.out.len) result.at }
+fn write_head(enc: Encoder, at: usize, levels: usize, form: Form, buf: &mut [u8], out: Out) -> Sent
+    ensures { Sends (head_text (encoder_by enc.entry) form) (dec_pred levels enc.entry.file.now at) (output buf.old out.len) (output buf.new result.out.len) result.at }
 {
     let opened = open_head(form.kvar, buf, out);
-    let head = smt_fmt::write_pred(s, at, levels, enc, buf, opened);
+    let head = smt_fmt::write_pred(enc, at, levels, buf, opened);
     let closed = close_head(form.kvar, form.count, buf, head.out);
     let ended = close_assert(form.bound, buf, closed);
     Sent {
@@ -335,66 +324,63 @@ fn write_guard_conjunction(text: &[u8], kept: Kept, kvar: bool, buf: &mut [u8], 
 }
 
 // Measures the assertion of the head at a position, inside the ForAlls of which the lengths are kept.
-pub fn measure_assert(s: &[u8], at: usize, levels: usize, kept: Kept, enc: &[u16]) -> Sent
-    requires { Chained s.now enc.now }
-    ensures { MeasuredSends s.now enc.now kept (dec_pred levels s.now at) result.out.len result.at }
+pub fn measure_assert(enc: Encoder, at: usize, levels: usize, kept: Kept) -> Sent
+    ensures { MeasuredSends (encoder_by enc.entry) kept (dec_pred levels enc.entry.file.now at) result.out.len result.at }
 {
     let mut none = [0u8; 0];
-    let form = form_of(s, at, kept.vars, kept.count);
+    let form = form_of(enc.file, at, kept.vars, kept.count);
     let opened = open_assert(form.bound, &mut none, Out::new());
     let listed = opened.counted(kept.vars);
     let implied = open_implication(form.bound, &mut none, listed);
     let grouped = open_guards(form.kvar, form.count, &mut none, implied);
     let guarded = grouped.counted(kept.guards);
     let closed = close_guards(form.kvar, form.count, &mut none, guarded);
-    write_head(s, at, levels, form, enc, &mut none, closed)
+    write_head(enc, at, levels, form, &mut none, closed)
 }
 
 // Sends the assertion of the head at a position, inside the ForAlls of which the text is kept.
 #[tactic(auto, using(crate::proofs::Asserts::fits_both, crate::proofs::Asserts::kept_asserts))]
 pub fn write_assert(
-    s: &[u8],
+    enc: Encoder,
     at: usize,
     levels: usize,
     kept: Kept,
     text: &[u8],
-    enc: &[u16],
     buf: &mut [u8],
     out: Out,
 ) -> Sent
-    requires { Chained s.now enc.now × (fits_in (length text.now) kept ≡ true) }
-    ensures { KeptSends s.now enc.now text.now kept (dec_pred levels s.now at) (output buf.old out.len) (output buf.new result.out.len) result.at }
+    requires { fits_in (length text.now) kept ≡ true }
+    ensures { KeptSends (encoder_by enc.entry) text.now kept (dec_pred levels enc.entry.file.now at) (output buf.old out.len) (output buf.new result.out.len) result.at }
 {
-    let form = form_of(s, at, kept.vars, kept.count);
+    let form = form_of(enc.file, at, kept.vars, kept.count);
     let opened = open_assert(form.bound, buf, out);
     let listed = opened.bytes(buf, &text[..kept.vars]);
     let implied = open_implication(form.bound, buf, listed);
     let guarded = write_guard_conjunction(text, kept, form.kvar, buf, implied);
-    write_head(s, at, levels, form, enc, buf, guarded)
+    write_head(enc, at, levels, form, buf, guarded)
 }
 
 // Sends the assertion of the head at a position, inside the ForAlls of the path, from their offsets and the number of their guards.
 #[tactic(auto, using(crate::proofs::Asserts::long_asserts))]
 pub fn write_long_assert(
-    s: &[u8],
+    enc: Encoder,
     at: usize,
     levels: usize,
     path: Path,
     count: u64,
-    enc: &[u16],
     buf: &mut [u8],
     out: Out,
 ) -> Sent
-    requires chained { Chained s.now enc.now × Leaves path 0 }
-    requires numbers { Numbers s.now (entries path) count }
-    ensures { HeadSends (assert_text (encoder_in s.now enc.now)) (on_path s.now (entries path)) (dec_pred levels s.now at) (output buf.old out.len) (output buf.new result.out.len) result.at }
+    requires leaves { Leaves path 0 }
+    requires numbers { Numbers enc.file.now (entries path) count }
+    ensures { HeadSends (assert_text (encoder_by enc.entry)) (on_path enc.entry.file.now (entries path)) (dec_pred levels enc.entry.file.now at) (output buf.old out.len) (output buf.new result.out.len) result.at }
 {
-    let form = form_of(s, at, path.depth, count);
+    let form = form_of(enc.file, at, path.depth, count);
     let opened = open_assert(form.bound, buf, out);
-    let listed = write_each_var(s, path, enc, buf, opened);
+    let listed = write_each_var(enc, path, buf, opened);
     let implied = open_implication(form.bound, buf, listed);
     let grouped = open_guards(form.kvar, count, buf, implied);
-    let guarded = write_each_guard(s, path, enc, buf, grouped);
+    let guarded = write_each_guard(enc, path, buf, grouped);
     let closed = close_guards(form.kvar, count, buf, guarded);
-    write_head(s, at, levels, form, enc, buf, closed)
+    write_head(enc, at, levels, form, buf, closed)
 }

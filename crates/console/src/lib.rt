@@ -16,6 +16,7 @@ ghost use Rattle.console.specs.Turns.{fitting as fitting_of, Fills, Begun, Short
 ghost use Rattle.smt_horn.specs.Calls.{written};
 
 use flatten::Range;
+use smt_sort::Encoder;
 use smt_text::Edition;
 use task::Refusal;
 use trailer::Bounds;
@@ -49,25 +50,18 @@ fn fitting(lengths: &[u32], room: usize) -> usize
 }
 
 // Puts as many parts, from a number on, to the buffer's start as fit it and a table of their lengths.
-fn fill(
-    file: &[u8],
-    b: Bounds,
-    enc: &[u16],
-    from: usize,
-    buf: &mut [u8],
-    lengths: &mut [u32],
-) -> Turn
-    requires accepted { Accepted file.now b × Names file.now enc.now }
-    requires begun { Begun file.now (edition_in enc.now) from }
-    ensures { Fills file.now (edition_in enc.now) from (length lengths.old) buf.old buf.new result }
+fn fill(enc: Encoder, b: Bounds, from: usize, buf: &mut [u8], lengths: &mut [u32]) -> Turn
+    requires accepted { Accepted enc.file.now b × Names enc.file.now enc.words.now }
+    requires begun { Begun enc.file.now (edition_in enc.words.now) from }
+    ensures { Fills enc.entry.file.now (edition_in enc.entry.words.now) from (length lengths.old) buf.old buf.new result }
 {
     let places = lengths.len();
     let to = output::sum(from, places);
-    let sizes = parts::measure(file, b, enc, Range { from, to }, lengths);
+    let sizes = parts::measure(enc, b, Range { from, to }, lengths);
     let known = output::least(places, sizes.seen - from);
     let next = from + fitting(&lengths[..known], buf.len());
     let mut none = [0u32; 0];
-    let put = parts::write_smt_horn(file, b, enc, Range { from, to: next }, buf, &mut none);
+    let put = parts::write_smt_horn(enc, b, Range { from, to: next }, buf, &mut none);
     Turn { next, len: put.len }
 }
 
@@ -94,17 +88,18 @@ fn turn_lengths() -> [u32; 6144]
 }
 
 // Writes out n parts by turns. The buffer is larger than the longest part may be, so that there are fewer turns: each walks the file anew.
-fn print_turns(file: &[u8], b: Bounds, enc: &[u16], n: usize) -> usize
-    requires accepted { Accepted file.now b × Names file.now enc.now }
-    requires short { Short file.now (edition_in enc.now) n }
-    ensures { Whole file.now (edition_in enc.now) result }
+fn print_turns(enc: Encoder, b: Bounds, n: usize) -> usize
+    requires accepted { Accepted enc.file.now b × Names enc.file.now enc.words.now }
+    requires short { Short enc.file.now (edition_in enc.words.now) n }
+    ensures { Whole enc.entry.file.now (edition_in enc.entry.words.now) result }
 {
     let mut buffer = turn_buffer();
     let mut lengths = turn_lengths();
     let mut next: usize = 0;
     let mut done: usize = 0;
+    // a while: how many parts a turn takes is known when it is filled
     while next < n {
-        let turn = fill(file, b, enc, next, &mut buffer, &mut lengths);
+        let turn = fill(enc, b, next, &mut buffer, &mut lengths);
         let len = turn.len;
         done = print_turn(&buffer[..len], done);
         next = turn.next;
@@ -123,20 +118,20 @@ pub fn print_refused(refusal: Refusal) -> Printed
 }
 
 // Writes the script of a task whose sections and names are known; or 9 if a part is longer than 65,536 bytes.
-fn print_task(file: &[u8], b: Bounds, enc: &[u16]) -> Printed
-    requires { Accepted file.now b × Names file.now enc.now }
-    ensures { written result ≡ print_of (names_of (edition_in enc.now)) (task_of file.now) }
+fn print_task(enc: Encoder, b: Bounds) -> Printed
+    requires { Accepted enc.file.now b × Names enc.file.now enc.words.now }
+    ensures { written result ≡ print_of (names_of (edition_in enc.entry.words.now)) (task_of enc.entry.file.now) }
 {
     let mut none = [0u32; 0];
     let all = Range {
         from: 0,
         to: usize::MAX,
     };
-    let sizes = parts::measure(file, b, enc, all, &mut none);
+    let sizes = parts::measure(enc, b, all, &mut none);
     if 65536 < sizes.longest {
         return print_refused(Refusal::Room);
     }
-    Ok(print_turns(file, b, enc, sizes.seen))
+    Ok(print_turns(enc, b, sizes.seen))
 }
 
 // Writes the script of a file, or `refused N`.
@@ -148,7 +143,11 @@ pub fn print_script(file: &[u8]) -> Printed
         Ok(found) => {
             let b = found.bounds;
             smt_sort::set_edition(&mut table, Edition::Z3);
-            print_task(file, b, &table)
+            let enc = Encoder {
+                file,
+                words: &table,
+            };
+            print_task(enc, b)
         }
         Err(refusal) => print_refused(refusal),
     }

@@ -30,7 +30,7 @@ fn is_repeated(s: &[u8], x: &[u8], offsets: &[u16]) -> bool
 {
     offsets
         .iter()
-        .any(|o| task_check::is_named(s, path::position(*o), x))
+        .any(|o| task_check::is_named(s, usize::from(*o), x))
 }
 
 // The fault of a ForAll that is named like one on the path.

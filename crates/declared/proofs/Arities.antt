@@ -30,8 +30,8 @@ use Rattle.names.proofs.Lasts.{snoc_from, entries_length}
 use Rattle.names.proofs.Theorems.{searches, names_append, members}
 use Rattle.declared.specs.Symbols.{kvars_symbols}
 use Rattle.declared.specs.Arity.{value_of, size_at, size_found, arity_in}
-use Rattle.declared.specs.Gather.{adds, Ready, Holding, holding, with_kvar, add_kvar, add_kvars, AddsKVar}
-use Rattle.declared.proofs.Collecting.{name_added}
+use Rattle.declared.specs.Gather.{adds, Holding, holding, with_kvar, add_kvar, add_kvars, AddsKVar}
+use Rattle.declared.proofs.Collecting.{name_added, Ready}
 
 -- SEARCHES
 

@@ -1,8 +1,10 @@
 -- What the steps of the walk over the declarations add up to.
+use Rattle.std.specs.Prelude.{◌^◌}
+use Rattle.std.specs.Borrow.{MutBor}
 use mathlib.Core.Path.{◌≡◌, refl, sym, ap, ◌∙◌}
 use mathlib.Core.Bool.{Bool, true, false, cond}
 use mathlib.Core.List.{List, [], ◌∷◌, ◌++◌, map}
-use Prim.Native.Nat.{ℕ, suc, ◌+◌, ◌-◌, ◌≤◌, ◌<◌}
+use Prim.Native.Nat.{ℕ, zero, suc, ◌+◌, ◌-◌, ◌≤◌, ◌<◌}
 use native.Mathlib.Omega.{arith}
 use lib.Dec.{eqb}
 use lib.ListN.{length, get_or}
@@ -11,17 +13,29 @@ use Rattle.task.specs.declared.Fault.{Fault}
 use Rattle.task.specs.Decode.{Res, got, bind, Decoder, refusal, raw, number, many, name, binder, dec_sort, data_ctor, datatype, deepest}
 use Rattle.task.specs.Fault.{sort_fault}
 use Rattle.task.proofs.Reading.{bind_got, got_refuse, number_got, raw_got, byte_fits}
-use Rattle.task.proofs.Running.{Steps, Owing, owing_start, owing_more, owing_end}
+use Rattle.task.proofs.Running.{Steps}
 use Rattle.task_check.specs.Walk.{walked}
 use Rattle.task_check.proofs.Rows.{next_is}
 use Rattle.names.specs.declared.Kind.{Kind}
 use Rattle.names.specs.declared.Kind.TheVariants.{Datatype, Constructor}
 use Rattle.names.specs.Table.{number_of as kind_number, name_at, has_name, Symbol, symbol, entries, Chained, add}
-use Rattle.names.specs.Change.{Kept, Pushed}
+use Rattle.names.specs.Change.{Pushed}
 use Rattle.names.proofs.Chains.{kept_all}
 use Rattle.names.proofs.Theorems.{kept_both}
-use Rattle.declared.specs.Symbols.{alone, together, named, field_symbols, ctor_symbols, ctors_symbols, datatype_symbols}
-use Rattle.declared.specs.Gather.{adds, Ready, Collects}
+use Rattle.declared.specs.Symbols.{alone, together, named, row_symbols, field_symbols, ctor_symbols, ctors_symbols, datatype_symbols}
+use Rattle.names.specs.declared.table.Table.{Table}
+use Rattle.names.proofs.Sames.{same_table, same_both}
+use Rattle.declared.specs.Gather.{adds, Collects, Collected}
+use Rattle.declared.specs.Row.{Tells, Called, Row}
+
+-- t can be searched, and a word has room for every place of s
+pub record Ready (s t : List ℕ) : Type 0 where
+  pub chained : Chained s t
+  pub short : length s ≤ 65535
+
+-- a table is that over its file
+pub ready : (t : Table) → Ready t.file.now t.words.now
+ready t = record { chained = t.chained; short = t.short }
 
 -- ADDING
 
@@ -142,42 +156,63 @@ module _ (s t : List ℕ) (at : ℕ) (l : Ready s t) (x : List ℕ) (p : ℕ) (e
 
 -- PIECES IN A ROW
 
-module _ {A : Type 0} (symbols : A → List Symbol) (d : Decoder A) (s t : List ℕ) (m at : ℕ) where
-  -- the loop: of m pieces i were collected, the others stand from p on, and t has become u
-  pub record Walking (u : List ℕ) (i p : ℕ) : Type 0 where
-    pub ready : Ready s u
-    pub kept : Kept t u
-    pub words : length u ≡ length t
-    pub owing : Owing (row_steps (length t) symbols) (many [] ◌∷◌ d m s at) (entries s t) (many [] ◌∷◌ d (m - i) s p) (entries s u)
+-- the loop of calls in a row: i of m were made, the others are from p on, and t has become u
+pub record Pushing (tells : Tells) (t : Table) (m at : ℕ) (u : Table) (i p : ℕ) : Type 0 where
+  pub low : p < 2 ^ 64
+  pub rest : (q : ℕ) (v : Table) → Row tells (m - i) p u q v → Row tells m at t q v
 
-  pub walking_start : Ready s t → Walking t 0 at
-  walking_start r =
-      let z : m - 0 ≡ m = omega arith in
-      record {
-        ready = r;
-        kept = kept_all t;
-        words = refl;
-        owing = rw z (owing_start (row_steps (length t) symbols) (many [] ◌∷◌ d m s at) (entries s t));
-      }
+module _ (tells : Tells) (t : Table) (m at : ℕ) where
+  pub pushing_starts : at < 2 ^ 64 → Pushing tells t m at t 0 at
+  pushing_starts l = let z : m - 0 ≡ m = omega arith in record { low = l; rest = λ q v x. rw z at x }
 
-  pub walking_more : (u v : List ℕ) (i p q : ℕ) → Walking u i p → i < m → Collects symbols (d s p) s u v q → Walking v (i + 1) q
-  walking_more u v i p q w h c =
+  pub pushing_goes : (i p : ℕ) (k : MutBor Table) → Pushing tells t m at k.now i p → i < m → (q : ℕ) (w : MutBor Table) → tells k p q w → q < 2 ^ 64 → Pushing tells t m at w.now (i + 1) q
+  pushing_goes i p k x h q w y l =
       let z : m - i ≡ suc (m - (i + 1)) = omega arith in
+      record { low = l; rest = λ r v n. x.rest r v (rw z (q, w.now, record { low = x.low; table = k; shows = refl; left = w; leaves = refl; met = y }, n)) }
+
+  pub pushing_ends : (u : Table) (i p : ℕ) → Pushing tells t m at u i p → m ≤ i → Row tells m at t p u
+  pushing_ends u i p x h = let z : m - i ≡ 0 = omega arith in x.rest p u (rw z (refl, refl))
+
+-- a piece, and those behind it
+module _ {A : Type 0} (symbols : A → List Symbol) (d : Decoder A) (s t v u : List ℕ) (n p r q : ℕ) where
+  one_more : Collects symbols (d s p) s t v r → Collects (row_symbols symbols) (many [] ◌∷◌ d n s r) s v u q → Collects (row_symbols symbols) (many [] ◌∷◌ d (suc n) s p) s t u q
+  unfolding adds
+  one_more x y =
       record {
-        ready = record { chained = c.chained; short = w.ready.short };
-        kept = kept_both t u v w.kept c.kept;
-        words = c.words ∙ w.words;
-        owing = owing_more (row_steps (length t) symbols) (many [] ◌∷◌ d m s at) (entries s t) (d s p) (many [] ◌∷◌ d (m - (i + 1)) s) (entries s u) (entries s v) q
-            (rw z at w.owing)
-            (λ a p1 e. let y = c.runs a p1 e in (y.0, y.1 ∙ ap (λ (k : ℕ). adds k (entries s u) (symbols a)) w.words));
+        chained = y.chained;
+        kept = kept_both t v u x.kept y.kept;
+        words = y.words ∙ x.words;
+        runs = λ xs z e.
+            let i = bind_got (d s p) (λ a l. bind (many [] ◌∷◌ d n s l) (λ b l1. got (a ∷ b) l1)) xs z e in
+            let j = bind_got (many [] ◌∷◌ d n s i.next) (λ b l1. got (i.value ∷ b) l1) xs z i.then in
+            let a = x.runs i.value i.next i.first in
+            let b = y.runs j.value j.next (rw a.0 j.first) in
+            let k : i.value ∷ j.value ≡ xs = cc in
+            let l : j.next ≡ z = cc in (
+              b.0 ∙ l,
+              b.1
+                  ∙ ap (λ (w : ℕ). adds w (entries s v) (row_symbols symbols j.value)) x.words
+                  ∙ ap (λ (es : List Symbol). adds (length t) es (row_symbols symbols j.value)) a.1
+                  ∙ sym (adds_append (length t) (entries s t) (symbols i.value) (row_symbols symbols j.value))
+                  ∙ ap (λ (ys : List A). adds (length t) (entries s t) (row_symbols symbols ys)) k,
+            );
       }
 
-  pub walking_end : (u : List ℕ) (i p : ℕ) → Walking u i p → m ≤ i → Collects (λ xs. together (map symbols xs)) (many [] ◌∷◌ d m s at) s t u p
-  walking_end u i p w h =
-      let z : m - i ≡ 0 = omega arith in
-      record {
-        chained = w.ready.chained;
-        kept = w.kept;
-        words = w.words;
-        runs = owing_end (row_steps (length t) symbols) (many [] ◌∷◌ d m s at) (entries s t) p (entries s u) (rw z at w.owing);
-      }
+-- each call collects a piece
+module _ {A : Type 0} (symbols : A → List Symbol) (d : Decoder A) (tells : Tells) (h : (k : MutBor Table) (p q : ℕ) (w : MutBor Table) → p < 2 ^ 64 → tells k p q w → Collected symbols d p k.now w.now q) where
+  one_collected : (p : ℕ) (t : Table) (q : ℕ) (u : Table) → Called tells p t q u → Collected symbols d p t u q
+  one_collected p t q u c = rw (c.shows, c.leaves) at (h c.table p q c.left c.low c.met)
+
+  none_collected : (p : ℕ) (t : Table) → Collected (row_symbols symbols) (many [] ◌∷◌ d zero) p t t p
+  unfolding adds
+  none_collected p t = (
+    record { chained = t.chained; kept = kept_all t.words.now; words = refl; runs = λ xs z e. let k : ◌≡◌ {A = List A} [] xs = cc in (cc, rw (← k)) },
+    same_table t,
+  )
+
+  pub row_collected : (n p : ℕ) (t : Table) (q : ℕ) (u : Table) → Row tells n p t q u → Collected (row_symbols symbols) (many [] ◌∷◌ d n) p t u q
+  row_collected zero p t q u c = rw (c.0, c.1) (none_collected p t)
+  row_collected (suc n) p t q u c =
+      let x = one_collected p t c.0 c.1 c.2 in
+      let y = row_collected n c.0 c.1 q u c.3 in
+      (one_more symbols d t.file.now t.words.now c.1.words.now u.words.now n p c.0 q x.0 (rw x.1.file at y.0), same_both t c.1 u x.1 y.1)

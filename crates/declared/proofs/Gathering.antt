@@ -19,8 +19,8 @@ use Rattle.trailer.specs.Bounds.{Inside, end_of}
 use Rattle.names.specs.declared.Kind.TheVariants.{Constant}
 use Rattle.names.specs.Table.{Symbol, entries, Chained}
 use Rattle.declared.specs.Symbols.{together, named, datatype_symbols}
-use Rattle.declared.specs.Gather.{adds, Ready, Collects, item_symbols, themselves, Sweeps, adds_all, Gathers}
-use Rattle.declared.proofs.Collecting.{adds_append}
+use Rattle.declared.specs.Gather.{adds, Collects, item_symbols, themselves, Sweeps, adds_all}
+use Rattle.declared.proofs.Collecting.{adds_append, Ready}
 
 -- AN ITEM
 
@@ -116,7 +116,3 @@ ends_inside file b i end h e = rw e (go i)
     go Constants = h.functions
     go Functions = h.kvars
     go KVars = h.constraint
-
--- after a section the table is ready for the next
-pub gathered_ready : (file : List ℕ) (i : Section) (at end : ℕ) (t u : List ℕ) → Ready file t → Gathers file i at end t u → Ready file u
-gathered_ready file i at end t u r g = record { chained = g.chained; short = r.short }

@@ -14,21 +14,17 @@ use Rattle.task.proofs.Opened.{Opened, opened_framed}
 use Rattle.task.proofs.Sections.{section_made}
 use Rattle.item_check.specs.declared.Section.TheVariants.{Datatypes, Constants}
 use Rattle.trailer.specs.declared.Bounds.{Bounds}
-use Rattle.trailer.specs.Bounds.{Inside, bounds_of, start_of, end_of}
+use Rattle.trailer.specs.Bounds.{bounds_of, start_of, end_of}
 use Rattle.names.specs.declared.Kind.TheVariants.{Constant}
 use Rattle.names.specs.Table.{Symbol, entries, names_of}
 use Rattle.names.specs.Change.{Blank}
-use Rattle.names.proofs.Theorems.{blank_chained, blank_entries}
+use Rattle.names.proofs.Theorems.{blank_entries}
 use Rattle.declared.specs.Symbols.{together, named, datatype_symbols, data_symbols, kvars_symbols, symbols_of, SampleSymbols}
 use Rattle.declared.specs.Arity.{arity_in}
-use Rattle.declared.specs.Gather.{adds, Ready, item_symbols, Sweeps, Gathers, Holding, holding, add_kvars, Declared, KVarsDeclared}
+use Rattle.declared.specs.Gather.{adds, item_symbols, Sweeps, Gathers, Holding, holding, add_kvars, Declared, KVarsDeclared}
 use Rattle.declared.proofs.Collecting.{adds_append}
 use Rattle.declared.proofs.Counting.{symbols_few, kvars_few, adds_all}
 use Rattle.declared.proofs.Arities.{arity_none, kvars_length, all_added}
-
--- an empty table is ready
-pub blank_ready : (file : List ℕ) (b : Bounds) (t : List ℕ) → Inside file b → Blank t → Ready file t
-blank_ready file b t i k = let h = i.most in record { chained = blank_chained file t k; short = omega arith }
 
 module _ (file t0 t1 t2 : List ℕ) (k : Blank t0) (room : 1026 + length file ≤ length t0) (task : Task) (o : Opened file task) where
   ds : List Symbol

@@ -15,13 +15,10 @@ use Rattle.trailer.specs.Bounds.{bounds_of}
 use Rattle.names.specs.declared.Kind.TheVariants.{KVar, Constant}
 use Rattle.names.specs.Table.{number_of, Symbol, symbol, entries, names_of, Chained, room_for, add}
 use Rattle.names.specs.Change.{Kept}
+use Rattle.names.specs.declared.table.Table.{Table}
+use Rattle.names.specs.Same.{Same}
 use Rattle.declared.specs.Symbols.{together, named, datatype_symbols, data_symbols, kvars_symbols}
 use Rattle.declared.specs.Arity.{arity_in}
-
--- t can be searched, and a word has room for every place of s
-pub record Ready (s t : List ℕ) : Type 0 where
-  pub chained : Chained s t
-  pub short : length s ≤ 65535
 
 -- SYMBOLS
 
@@ -36,6 +33,10 @@ pub record Collects {A : Type 0} (symbols : A → List Symbol) (d : Res A) (s t 
   pub kept : Kept t u
   pub words : length u ≡ length t
   pub runs : Runs (λ es a. adds (length t) es (symbols a)) d (entries s t) (entries s u) at
+
+-- So it is of a table over its own file, in the same lent words, where the piece stands at a position.
+abbrev pub Collected : {A : Type 0} → (A → List Symbol) → Decoder A → ℕ → Table → Table → ℕ → Type 0
+Collected symbols d at t u p = Collects symbols (d t.file.now at) t.file.now t.words.now u.words.now p × Same t u
 
 -- the symbols of a datatype or a constant, by the section that it stands in; another item has none
 unfoldable pub item_symbols : Section → Decoder (List Symbol)

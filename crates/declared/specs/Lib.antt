@@ -2,3 +2,4 @@
 pub mod Symbols
 pub mod Arity
 pub mod Gather
+pub mod Row

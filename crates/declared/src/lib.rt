@@ -6,106 +6,99 @@ ghost use Rattle.std.specs.Prelude.{[], ◌∷◌, ◌+◌, ◌≤◌, length};
 ghost use Rattle.task.specs.Decode.{many, name, binder, data_ctor, datatype, kvar};
 ghost use Rattle.trailer.specs.Bounds.{Inside, start_of, end_of};
 ghost use Rattle.names.specs.Change.{Blank};
+ghost use Rattle.names.specs.Same.{Same};
 ghost use Rattle.declared.specs.Symbols.{alone, named, row_symbols, ctor_symbols, ctors_symbols, datatype_symbols};
-ghost use Rattle.declared.specs.Gather.{Ready, Collects, item_symbols, themselves, Sweeps, Gathers, holding, add_kvars, AddsKVar, Declared, KVarsDeclared};
+ghost use Rattle.declared.specs.Row.{Takes, Row};
+ghost use Rattle.declared.specs.Gather.{Collected, item_symbols, themselves, Sweeps, Gathers, holding, add_kvars, AddsKVar, Declared, KVarsDeclared};
 
 use item_check::Section;
-use names::Kind;
+use names::{Kind, Table};
 use trailer::Bounds;
 
 // A name with its sort: the name is an entry of the kind.
-fn push_binder(s: &[u8], at: usize, levels: usize, kind: Kind, table: &mut [u16]) -> usize
-    requires { Ready s.now table.old }
-    ensures { Collects (named kind) (binder levels s.now at) s.now table.old table.new result }
+fn push_binder(table: &mut Table, at: usize, levels: usize, kind: Kind) -> usize
+    ensures { Collected (named kind) (binder levels) at table.old table.new result }
 {
+    let s = table.file;
     let Ok((_, p)) = task::read_name(s, at) else {
         return at;
     };
-    names::push(s, table, at, kind);
+    table.push(at, kind);
     let Ok((_, q)) = task_check::check_sort(s, p, levels, false) else {
         return at;
     };
     q
 }
 
-// n names with their sorts.
-#[tactic(auto, using(crate::proofs::Collecting::walking_start, crate::proofs::Collecting::walking_more, crate::proofs::Collecting::walking_end))]
-pub fn push_binders(
-    s: &[u8],
+// n pieces in a row, each pushed by the call at its position.
+fn push_row<F: Fn(&mut Table, usize) -> usize>(
+    table: &mut Table,
     at: usize,
     n: u64,
-    levels: usize,
-    kind: Kind,
-    table: &mut [u16],
+    push: F,
 ) -> usize
-    requires { Ready s.now table.old }
-    ensures { Collects (row_symbols (named kind)) (many [] ◌∷◌ (binder levels) n s.now at) s.now table.old table.new result }
+    requires { Takes (F.pre push) }
+    ensures { Row (F.post push) n at table.old result table.new }
 {
     let mut p = at;
     for _ in 0..n {
-        p = push_binder(s, p, levels, kind, table);
+        p = push(table, p);
     }
     p
 }
 
-// A name: it is an entry of the kind.
-fn push_name(s: &[u8], at: usize, kind: Kind, table: &mut [u16]) -> usize
-    requires { Ready s.now table.old }
-    ensures { Collects (alone kind) (name s.now at) s.now table.old table.new result }
+// n names with their sorts.
+pub fn push_binders(table: &mut Table, at: usize, n: u64, levels: usize, kind: Kind) -> usize
+    ensures { Collected (row_symbols (named kind)) (many [] ◌∷◌ (binder levels) n) at table.old table.new result }
 {
-    let Ok((_, p)) = task::read_name(s, at) else {
+    push_row(table, at, n, |t, p| push_binder(t, p, levels, kind))
+}
+
+// A name: it is an entry of the kind.
+fn push_name(table: &mut Table, at: usize, kind: Kind) -> usize
+    ensures { Collected (alone kind) name at table.old table.new result }
+{
+    let Ok((_, p)) = task::read_name(table.file, at) else {
         return at;
     };
-    names::push(s, table, at, kind);
+    table.push(at, kind);
     p
 }
 
 // n names.
-#[tactic(auto, using(crate::proofs::Collecting::walking_start, crate::proofs::Collecting::walking_more, crate::proofs::Collecting::walking_end))]
-pub fn push_names(s: &[u8], at: usize, n: u64, kind: Kind, table: &mut [u16]) -> usize
-    requires { Ready s.now table.old }
-    ensures { Collects (row_symbols (alone kind)) (many [] ◌∷◌ name n s.now at) s.now table.old table.new result }
+pub fn push_names(table: &mut Table, at: usize, n: u64, kind: Kind) -> usize
+    ensures { Collected (row_symbols (alone kind)) (many [] ◌∷◌ name n) at table.old table.new result }
 {
-    let mut p = at;
-    for _ in 0..n {
-        p = push_name(s, p, kind, table);
-    }
-    p
+    push_row(table, at, n, |t, p| push_name(t, p, kind))
 }
 
 // A constructor with its fields.
-fn push_ctor(s: &[u8], at: usize, table: &mut [u16]) -> usize
-    requires { Ready s.now table.old }
-    ensures { Collects ctor_symbols (data_ctor s.now at) s.now table.old table.new result }
+fn push_ctor(table: &mut Table, at: usize) -> usize
+    ensures { Collected ctor_symbols data_ctor at table.old table.new result }
 {
+    let s = table.file;
     let Ok((_, p)) = task::read_name(s, at) else {
         return at;
     };
     let Ok((n, q)) = task::number_at(s, p, 2) else {
         return at;
     };
-    names::push(s, table, at, Kind::Constructor);
-    push_binders(s, q, n, 256, Kind::Field, table)
+    table.push(at, Kind::Constructor);
+    push_binders(table, q, n, 256, Kind::Field)
 }
 
 // n constructors in a row.
-#[tactic(auto, using(crate::proofs::Collecting::walking_start, crate::proofs::Collecting::walking_more, crate::proofs::Collecting::walking_end))]
-fn push_ctors(s: &[u8], at: usize, n: u64, table: &mut [u16]) -> usize
-    requires { Ready s.now table.old }
-    ensures { Collects ctors_symbols (many [] ◌∷◌ data_ctor n s.now at) s.now table.old table.new result }
+fn push_ctors(table: &mut Table, at: usize, n: u64) -> usize
+    ensures { Collected ctors_symbols (many [] ◌∷◌ data_ctor n) at table.old table.new result }
 {
-    let mut p = at;
-    for _ in 0..n {
-        p = push_ctor(s, p, table);
-    }
-    p
+    push_row(table, at, n, push_ctor)
 }
 
 // A datatype with its constructors.
-fn push_datatype(s: &[u8], at: usize, table: &mut [u16]) -> usize
-    requires { Ready s.now table.old }
-    ensures { Collects datatype_symbols (datatype s.now at) s.now table.old table.new result }
+fn push_datatype(table: &mut Table, at: usize) -> usize
+    ensures { Collected datatype_symbols datatype at table.old table.new result }
 {
+    let s = table.file;
     let Ok((_, p)) = task::read_name(s, at) else {
         return at;
     };
@@ -115,33 +108,33 @@ fn push_datatype(s: &[u8], at: usize, table: &mut [u16]) -> usize
     let Ok((n, r)) = task::number_at(s, q, 2) else {
         return at;
     };
-    names::push(s, table, at, Kind::Datatype);
-    push_ctors(s, r, n, table)
+    table.push(at, Kind::Datatype);
+    push_ctors(table, r, n)
 }
 
 // An item of a section.
 #[tactic(auto, unfolding(crate::specs::Gather::item_symbols))]
-fn push_item(s: &[u8], at: usize, section: Section, table: &mut [u16]) -> usize
-    requires { Ready s.now table.old }
-    ensures { Collects themselves (item_symbols section s.now at) s.now table.old table.new result }
+fn push_item(table: &mut Table, at: usize, section: Section) -> usize
+    ensures { Collected themselves (item_symbols section) at table.old table.new result }
 {
     match section {
         Section::Comments => at,
-        Section::Datatypes => push_datatype(s, at, table),
-        Section::Constants => push_binder(s, at, 256, Kind::Constant, table),
+        Section::Datatypes => push_datatype(table, at),
+        Section::Constants => push_binder(table, at, 256, Kind::Constant),
         Section::Functions => at,
         Section::KVars => at,
     }
 }
 
 // The items from a position to the section's end.
-pub fn push_section(file: &[u8], at: usize, end: usize, section: Section, table: &mut [u16])
-    requires { Ready file.now table.old × (end ≤ length file.now) }
-    ensures { Gathers file.now section at end table.old table.new }
+pub fn push_section(table: &mut Table, at: usize, end: usize, section: Section)
+    requires { end ≤ length table.old.file.now }
+    ensures { Gathers table.old.file.now section at end table.old.words.now table.new.words.now × Same table.old table.new }
 {
     let mut p = at;
+    // a while: items have no count, and where one ends is known when it is read
     while p < end {
-        let next = push_item(file, p, section, table);
+        let next = push_item(table, p, section);
         if next <= p {
             return;
         }
@@ -150,51 +143,51 @@ pub fn push_section(file: &[u8], at: usize, end: usize, section: Section, table:
 }
 
 // The items of a section of the file.
-fn push_items(file: &[u8], b: Bounds, section: Section, table: &mut [u16])
-    requires { Ready file.now table.old × Inside file.now b }
-    ensures { Gathers file.now section (start_of b section) (end_of b section) table.old table.new }
+fn push_items(table: &mut Table, b: Bounds, section: Section)
+    requires { Inside table.old.file.now b }
+    ensures { Gathers table.old.file.now section (start_of b section) (end_of b section) table.old.words.now table.new.words.now × Same table.old table.new }
 {
     let at = trailer::start_of(b, section);
     let end = trailer::end_of(b, section);
-    push_section(file, at, end, section, table);
+    push_section(table, at, end, section);
 }
 
 // Puts the datatypes and constants of the file into an empty table with as many words for entries as the file has bytes.
-#[tactic(auto, using(crate::proofs::Gathering::gathered_ready))]
-pub fn declare(file: &[u8], b: Bounds, table: &mut [u16])
-    requires inside { Inside file.now b × Blank table.old }
-    requires room { 1026 + length file.now ≤ length table.old }
-    ensures { Declared file.now b table.old table.new }
+pub fn declare(table: &mut Table, b: Bounds)
+    requires inside { Inside table.old.file.now b × Blank table.old.words.now }
+    requires room { 1026 + length table.old.file.now ≤ length table.old.words.now }
+    ensures { Declared table.old.file.now b table.old.words.now table.new.words.now × Same table.old table.new }
 {
-    push_items(file, b, Section::Datatypes, table);
-    push_items(file, b, Section::Constants, table);
+    push_items(table, b, Section::Datatypes);
+    push_items(table, b, Section::Constants);
 }
 
 // A KVar: its name, unless there is one with that name.
-fn push_kvar(s: &[u8], at: usize, table: &mut [u16]) -> usize
-    requires { Ready s.now table.old }
-    ensures { AddsKVar (kvar s.now at) s.now table.old table.new result }
+fn push_kvar(table: &mut Table, at: usize) -> usize
+    ensures { AddsKVar (kvar table.old.file.now at) table.old.file.now table.old.words.now table.new.words.now result × Same table.old table.new }
 {
+    let s = table.file;
     let Ok((x, _)) = task::read_name(s, at) else {
         return at;
     };
     let Ok((_, q)) = item_check::check_item(s, at, Section::KVars) else {
         return at;
     };
-    if names::find(s, table, x, Kind::KVar, Kind::KVar).is_none() {
-        names::push(s, table, at, Kind::KVar);
+    if table.find(x, Kind::KVar, Kind::KVar).is_none() {
+        table.push(at, Kind::KVar);
     }
     q
 }
 
 // The KVars from a position to an end.
-fn push_kvars(file: &[u8], at: usize, end: usize, table: &mut [u16])
-    requires { Ready file.now table.old × (end ≤ length file.now) }
-    ensures { Sweeps (holding file.now) add_kvars kvar file.now at end table.old table.new }
+fn push_kvars(table: &mut Table, at: usize, end: usize)
+    requires { end ≤ length table.old.file.now }
+    ensures { Sweeps (holding table.old.file.now) add_kvars kvar table.old.file.now at end table.old.words.now table.new.words.now × Same table.old table.new }
 {
     let mut p = at;
+    // a while: items have no count, and where one ends is known when it is read
     while p < end {
-        let next = push_kvar(file, p, table);
+        let next = push_kvar(table, p);
         if next <= p {
             return;
         }
@@ -203,9 +196,9 @@ fn push_kvars(file: &[u8], at: usize, end: usize, table: &mut [u16])
 }
 
 // Puts the KVars of the file into the table, behind what is there.
-pub fn declare_kvars(file: &[u8], b: Bounds, table: &mut [u16])
-    requires { Ready file.now table.old × Inside file.now b }
-    ensures { KVarsDeclared file.now b table.old table.new }
+pub fn declare_kvars(table: &mut Table, b: Bounds)
+    requires { Inside table.old.file.now b }
+    ensures { KVarsDeclared table.old.file.now b table.old.words.now table.new.words.now × Same table.old table.new }
 {
-    push_kvars(file, b.kvars, b.constraint, table);
+    push_kvars(table, b.kvars, b.constraint);
 }

@@ -5,8 +5,6 @@ use mathlib.Core.Bool.{Bool, true, false, not, ◌&&◌}
 use mathlib.Core.List.{List, [], ◌∷◌, ◌++◌, map-append}
 use Prim.Native.Nat.{ℕ, suc, ◌+◌, ◌-◌, ◌<◌, ◌≤◌, min}
 use native.Mathlib.Omega.{arith}
-use mir.Val.{Fits}
-use mir.Syntax.{w8}
 use lib.ListN.{length, take, drop, get_or, length-append}
 use borrow.Author.Tests.{ne_eqb}
 use Rattle.smtlib.proofs.Bools.{clash}
@@ -31,6 +29,7 @@ use Rattle.path.proofs.Entries.{depth_is, leaves_fewer, leaves_pushed}
 use Rattle.constraint_check.specs.Around.{is_head, Header, header_fault, header, for_all}
 use Rattle.constraint_check.proofs.Names.{name_inside}
 use Rattle.constraint_check.proofs.Constraints.{head_node}
+use Rattle.smt_text.specs.Editions.{Valid}
 use Rattle.smt_text.specs.Encoder.{Encoder}
 use Rattle.horn_text.specs.Clauses.{ForAll, binders_of, guards_of, flatten_constraint, flatten_constraints}
 use Rattle.horn_text.specs.Script.{write_assert, write_asserts}
@@ -40,10 +39,9 @@ use Rattle.task.proofs.Running.{runs_refused, runs_end, runs_then, Steps}
 use Rattle.assertion.specs.declared.Kept.{Kept}
 use Rattle.assertion.specs.Under.{for_all_at, on_path, assert_text, HeadSends}
 use Rattle.assertion.specs.Kept.{measured, plus, minus, Within, fits, Keeps, Stays, Extended, Extends, Numbers, MeasuredSends, KeptSends}
-use Rattle.smt_sort.specs.Section.{encoder_in}
 use Rattle.assertion.proofs.Asserts.{both, not_set, empty}
 use Rattle.assertion.proofs.Keeping.{measured_plus, within_plus, plus_minus, keeps_stays, keeps_extended, stays_around}
-use Rattle.assertion.proofs.Short.{are_bytes, valid_in, path_short}
+use Rattle.assertion.proofs.Short.{path_short}
 use Rattle.flatten.specs.declared.Progress.{Progress}
 use Rattle.flatten.specs.declared.Moved.{Moved}
 use Rattle.flatten.specs.declared.Row.{Row}
@@ -97,20 +95,20 @@ module _ (d : Res Pred) (f : Moved) (c : Bool) (e : c ≡ wanted f.progress d) w
       let l : literally_true a ≡ false = sym (ap read_true k) ∙ not_set (read_true d) h.1 in
       (v.0, v.1 ∙ rw (l, h.0))
 
-  module _ (s enc text : List ℕ) (kept : Kept) (b ls : List ℕ) where
-    pub kept_passed : (m : Moved) → c ≡ false → Passes f d m → KeptPuts s enc text kept d (writing f.progress b ls) (writing m.progress b ls) m.at
+  module _ (enc : Encoder) (text : List ℕ) (kept : Kept) (b ls : List ℕ) where
+    pub kept_passed : (m : Moved) → c ≡ false → Passes f d m → KeptPuts enc text kept d (writing f.progress b ls) (writing m.progress b ls) m.at
     unfolding KeptPuts Passes
-    kept_passed m e' u fs k = u (sym e ∙ e') (encoder_in s enc) fs b ls
+    kept_passed m e' u fs k = u (sym e ∙ e') enc fs b ls
 
-    pub measured_wanted : (m : Moved) (ls' : List ℕ) → c ≡ true → length b ≤ 0 → MeasuredPlaces s enc kept d (writing f.progress [] ls) (writing m.progress [] ls') m.at
-        → KeptPuts s enc text kept d (writing f.progress b ls) (writing m.progress b ls') m.at
+    pub measured_wanted : (m : Moved) (ls' : List ℕ) → c ≡ true → length b ≤ 0 → MeasuredPlaces enc kept d (writing f.progress [] ls) (writing m.progress [] ls') m.at
+        → KeptPuts enc text kept d (writing f.progress b ls) (writing m.progress b ls') m.at
     unfolding KeptPuts MeasuredPlaces
-    measured_wanted m ls' e' h w fs k = rw (empty b h) (placed_puts (encoder_in s enc) fs (writing m.progress [] ls') [] ls m.at e' (w fs k.measures))
+    measured_wanted m ls' e' h w fs k = rw (empty b h) (placed_puts enc fs (writing m.progress [] ls') [] ls m.at e' (w fs k.measures))
 
-    pub kept_wanted : (w' : Writing) (at : ℕ) → c ≡ true → KeptPlaces s enc text kept d (writing f.progress b ls) w' at
-        → KeptPuts s enc text kept d (writing f.progress b ls) w' at
+    pub kept_wanted : (w' : Writing) (at : ℕ) → c ≡ true → KeptPlaces enc text kept d (writing f.progress b ls) w' at
+        → KeptPuts enc text kept d (writing f.progress b ls) w' at
     unfolding KeptPuts KeptPlaces
-    kept_wanted w' at e' w fs k = placed_puts (encoder_in s enc) fs w' b ls at e' (w fs k)
+    kept_wanted w' at e' w fs k = placed_puts enc fs w' b ls at e' (w fs k)
 
   module _ (enc : Encoder) (path : Res (List ForAll)) (b ls : List ℕ) where
     pub path_passed : (m : Moved) → c ≡ false → Passes f d m → PutsUnder (head_parts enc) path d (writing f.progress b ls) (writing m.progress b ls) m.at
@@ -123,27 +121,27 @@ module _ (d : Res Pred) (f : Moved) (c : Bool) (e : c ≡ wanted f.progress d) w
     path_wanted w' at e' w fs q g = placed_puts enc fs w' b ls at e' (w fs q g)
 
 -- the assertion of a head that was measured
-pub measured_placed : (s enc : List ℕ) (kept : Kept) (d : Res Pred) (p p' : Progress) (ls ls' : List ℕ) (n at : ℕ) → Counted p n ls p' ls' → MeasuredSends s enc kept d n at
-    → MeasuredPlaces s enc kept d (writing p [] ls) (writing p' [] ls') at
+pub measured_placed : (enc : Encoder) (kept : Kept) (d : Res Pred) (p p' : Progress) (ls ls' : List ℕ) (n at : ℕ) → Counted p n ls p' ls' → MeasuredSends enc kept d n at
+    → MeasuredPlaces enc kept d (writing p [] ls) (writing p' [] ls') at
 unfolding MeasuredSends MeasuredPlaces Places
-measured_placed s enc kept d p p' ls ls' n at e w fs k =
-    part_placed (assert_text (encoder_in s enc) fs) p p' [] ls ls' d [] 0 0 n at (omega arith) refl (omega arith) (w fs k) e
+measured_placed enc kept d p p' ls ls' n at e w fs k =
+    part_placed (assert_text enc fs) p p' [] ls ls' d [] 0 0 n at (omega arith) refl (omega arith) (w fs k) e
 
 -- the assertion of a head behind what was written
-module _ (s enc : List ℕ) (d : Res Pred) (p p' : Progress) (xs ys ls ls' : List ℕ) (start z n at : ℕ) (e : start ≡ min p.len (length xs)) (e0 : z ≡ 0) (m : length xs ≤ most)
+module _ (enc : Encoder) (d : Res Pred) (p p' : Progress) (xs ys ls ls' : List ℕ) (start z n at : ℕ) (e : start ≡ min p.len (length xs)) (e0 : z ≡ 0) (m : length xs ≤ most)
     (e' : Counted p n ls p' ls') where
-  pub kept_placed : (text : List ℕ) (kept : Kept) → KeptSends s enc text kept d (output (take (length xs - start) (drop start xs)) z) (output ys n) at
-      → KeptPlaces s enc text kept d (writing p xs ls) (writing p' (take start xs ++ (ys ++ drop (length xs - start) (drop start xs))) ls') at
+  pub kept_placed : (text : List ℕ) (kept : Kept) → KeptSends enc text kept d (output (take (length xs - start) (drop start xs)) z) (output ys n) at
+      → KeptPlaces enc text kept d (writing p xs ls) (writing p' (take start xs ++ (ys ++ drop (length xs - start) (drop start xs))) ls') at
   unfolding KeptSends KeptPlaces Places
-  kept_placed text kept w fs k = part_placed (assert_text (encoder_in s enc) fs) p p' xs ls ls' d ys start z n at e e0 m (w fs k) e'
+  kept_placed text kept w fs k = part_placed (assert_text enc fs) p p' xs ls ls' d ys start z n at e e0 m (w fs k) e'
 
-  pub path_placed : (path : Res (List ForAll)) → HeadSends (assert_text (encoder_in s enc)) path d (output (take (length xs - start) (drop start xs)) z) (output ys n) at
-      → PathPlaces (encoder_in s enc) path d (writing p xs ls) (writing p' (take start xs ++ (ys ++ drop (length xs - start) (drop start xs))) ls') at
+  pub path_placed : (path : Res (List ForAll)) → HeadSends (assert_text enc) path d (output (take (length xs - start) (drop start xs)) z) (output ys n) at
+      → PathPlaces enc path d (writing p xs ls) (writing p' (take start xs ++ (ys ++ drop (length xs - start) (drop start xs))) ls') at
   unfolding HeadSends PathPlaces Places
-  path_placed path w fs q g = part_placed (assert_text (encoder_in s enc) fs) p p' xs ls ls' d ys start z n at e e0 m (w fs q g) e'
+  path_placed path w fs q g = part_placed (assert_text enc fs) p p' xs ls ls' d ys start z n at e e0 m (w fs q g) e'
 
 -- where ForAlls stand on a path and all is kept of them, the number of their guards is that of the path
-pub kept_numbers : (s enc text os : List ℕ) (kept : Kept) (fs : List ForAll) (z : ℕ) → on_path s os ≡ got fs z → Keeps (encoder_in s enc) fs text kept → Numbers s os kept.count
+pub kept_numbers : (s : List ℕ) (enc : Encoder) (text os : List ℕ) (kept : Kept) (fs : List ForAll) (z : ℕ) → on_path s os ≡ got fs z → Keeps enc fs text kept → Numbers s os kept.count
 unfolding Numbers
 kept_numbers s enc text os kept fs z e k gs q g =
     let n : got fs z ≡ got gs q = sym e ∙ g in
@@ -393,60 +391,59 @@ enough_room size room kept h n = rw (ne_eqb room 0 n) at h
 
 -- a head in a row
 module _ (l : ℕ) (s : List ℕ) (at : ℕ) (h : is_head l s at ≡ true) where
-  pub head_put : (enc text : List ℕ) (kept : Kept) (f m : Moved) (b ls : List ℕ) (w' : Writing) (t : ℕ) → at ≡ f.at
-      → (m.at ≡ at + 1) × (m.progress ≡ f.progress) → KeptPuts s enc text kept (dec_pred (l - 1) s m.at) (writing m.progress b ls) w' t
-      → (fs : List ForAll) → Keeps (encoder_in s enc) fs text kept → Puts (clause_parts (encoder_in s enc) fs) (dec_constraint l s f.at) (writing f.progress b ls) w' t
+  pub head_put : (enc : Encoder) (text : List ℕ) (kept : Kept) (f m : Moved) (b ls : List ℕ) (w' : Writing) (t : ℕ) → at ≡ f.at
+      → (m.at ≡ at + 1) × (m.progress ≡ f.progress) → KeptPuts enc text kept (dec_pred (l - 1) s m.at) (writing m.progress b ls) w' t
+      → (fs : List ForAll) → Keeps enc fs text kept → Puts (clause_parts enc fs) (dec_constraint l s f.at) (writing f.progress b ls) w' t
   unfolding PutsUnder KeptPuts
   head_put enc text kept f m b ls w' t ea u w fs k =
       let n = head_node l s at true (sym h) refl in
       rw (← ea)
-      (node_pred (encoder_in s enc) (got fs 0) f.progress b ls w' t l s at constraint_node.Pred (at + 1) n.0 n.1 m refl u
+      (node_pred enc (got fs 0) f.progress b ls w' t l s at constraint_node.Pred (at + 1) n.0 n.1 m refl u
       (λ gs q g. let i : fs ≡ gs = cc in rw i at (w fs k)) fs 0 refl)
 
 -- ForAlls that stand on a path and of which all is kept
-on_path_lem : (s enc text os : List ℕ) (kept : Kept) (fs gs : List ForAll) (z q : ℕ) → on_path s os ≡ got fs z → Keeps (encoder_in s enc) fs text kept → on_path s os ≡ got gs q
-    → Keeps (encoder_in s enc) gs text kept
+on_path_lem : (s : List ℕ) (enc : Encoder) (text os : List ℕ) (kept : Kept) (fs gs : List ForAll) (z q : ℕ) → on_path s os ≡ got fs z → Keeps enc fs text kept → on_path s os ≡ got gs q
+    → Keeps enc gs text kept
 on_path_lem s enc text os kept fs gs z q e k g =
     let n : got fs z ≡ got gs q = sym e ∙ g in
     let i : fs ≡ gs = cc in
     rw i at k
 
 -- heads of a row that were put are members that were put
-pub members_heads : (s enc text : List ℕ) (path : Path) (kept : Kept) (l : ℕ) → Ready s enc text path kept l → (m at : ℕ) (first : Writing) (n p : ℕ) (w : Writing) (n' p' : ℕ) (w' : Writing)
-    → Members (encoder_in s enc) (on_path s (entries path)) l s m at first n p w
-    → Onward (λ fs. Keeps (encoder_in s enc) fs text kept) (encoder_in s enc) l s n p w n' p' w'
-    → Members (encoder_in s enc) (on_path s (entries path)) l s m at first n' p' w'
+pub members_heads : (s : List ℕ) (enc : Encoder) (text : List ℕ) (path : Path) (kept : Kept) (l : ℕ) → Ready s enc text path kept l → (m at : ℕ) (first : Writing) (n p : ℕ) (w : Writing) (n' p' : ℕ) (w' : Writing)
+    → Members enc (on_path s (entries path)) l s m at first n p w
+    → Onward (λ fs. Keeps enc fs text kept) enc l s n p w n' p' w'
+    → Members enc (on_path s (entries path)) l s m at first n' p' w'
 unfolding Members
 members_heads s enc text path kept l r m at first n p w n' p' w' i j q =
-    onward_then _ (encoder_in s enc) l s m at first n p w (i q) n' p' w'
-    (onward_holds _ (encoder_in s enc) l s n p w n' p' w' j (λ fs. on_path s (entries path) ≡ got fs q) (λ fs g. on_path_lem s enc text (entries path) kept r.around fs 0 q r.stands r.keeps g))
+    onward_then _ enc l s m at first n p w (i q) n' p' w'
+    (onward_holds _ enc l s n p w n' p' w' j (λ fs. on_path s (entries path) ≡ got fs q) (λ fs g. on_path_lem s enc text (entries path) kept r.around fs 0 q r.stands r.keeps g))
 
 -- a head by itself is a row of one
-one_head : (s enc text : List ℕ) (path : Path) (kept : Kept) (l : ℕ) → Ready s enc text path kept l → (at : ℕ) (w : Writing) (n p : ℕ) (w' : Writing) → n < 1
-    → Onward (λ fs. Keeps (encoder_in s enc) fs text kept) (encoder_in s enc) l s 1 at w n p w'
-    → PutsUnder (clause_parts (encoder_in s enc)) (on_path s (entries path)) (dec_constraint l s at) w w' p
+one_head : (s : List ℕ) (enc : Encoder) (text : List ℕ) (path : Path) (kept : Kept) (l : ℕ) → Ready s enc text path kept l → (at : ℕ) (w : Writing) (n p : ℕ) (w' : Writing) → n < 1
+    → Onward (λ fs. Keeps enc fs text kept) enc l s 1 at w n p w'
+    → PutsUnder (clause_parts enc) (on_path s (entries path)) (dec_constraint l s at) w w' p
 unfolding PutsUnder Puts
 one_head s enc text path kept l r at w n p w' h j fs q g c z e =
     let k = on_path_lem s enc text (entries path) kept r.around fs 0 q r.stands r.keeps g in
-    let u = onward_end _ (encoder_in s enc) l s 1 at w n p w' j (omega arith) fs k (Constraints.more c Constraints.none) z (rw e refl) in
-    let st = member_steps (encoder_in s enc) fs in
-    (u.0, u.1 ∙ st.step w c Constraints.none ∙ st.none (puts w (clause_parts (encoder_in s enc) fs c)))
+    let u = onward_end _ enc l s 1 at w n p w' j (omega arith) fs k (Constraints.more c Constraints.none) z (rw e refl) in
+    let st = member_steps enc fs in
+    (u.0, u.1 ∙ st.step w c Constraints.none ∙ st.none (puts w (clause_parts enc fs c)))
 
-pub row_of_one : (s enc text : List ℕ) (path : Path) (k : Kept) (l : ℕ) → Ready s enc text path k l → (at : ℕ) (pr : Progress) (xs ls : List ℕ) (m r : Row) (w' : Writing)
+pub row_of_one : (s : List ℕ) (enc : Encoder) (text : List ℕ) (path : Path) (k : Kept) (l : ℕ) → Ready s enc text path k l → (at : ℕ) (pr : Progress) (xs ls : List ℕ) (m r : Row) (w' : Writing)
     → (m.from.moved.at ≡ at) × (m.from.moved.progress ≡ pr) × (m.from.kept ≡ k) × (m.left ≡ 1)
     → HeadsPut s enc text l m (writing m.from.moved.progress xs ls) r w' → r.left < m.left
-    → PutsUnder (clause_parts (encoder_in s enc)) (on_path s (entries path)) (dec_constraint l s at) (writing pr xs ls) w' r.from.moved.at
+    → PutsUnder (clause_parts enc) (on_path s (entries path)) (dec_constraint l s at) (writing pr xs ls) w' r.from.moved.at
 row_of_one s enc text path k l rd at pr xs ls m r w' e h g =
     let n = e.3 in
     one_head s enc text path k l rd at (writing pr xs ls) r.left r.from.moved.at w' (omega arith) (rw (e.0, e.1, e.2, e.3) at h)
 
 -- READY
 
-module _ (s enc text : List ℕ) (path : Path) (k : Kept) (l : ℕ) (h : Ready s enc text path k l) where
+module _ (s : List ℕ) (enc : Encoder) (text : List ℕ) (path : Path) (k : Kept) (l : ℕ) (h : Ready s enc text path k l) where
   pub ready_fewer : (j : ℕ) (k' : Kept) → j ≤ l → k' ≡ k → Ready s enc text path k' j
   ready_fewer j k' g e = record {
     short = h.short;
-    chained = h.chained;
     leaves = leaves_fewer path l j g h.leaves;
     around = h.around;
     stands = h.stands;
@@ -456,16 +453,15 @@ module _ (s enc text : List ℕ) (path : Path) (k : Kept) (l : ℕ) (h : Ready s
   pub ready_stays : (text' : List ℕ) (k' : Kept) → Stays k text text' → k' ≡ k → Ready s enc text' path k' l
   ready_stays text' k' g e = record {
     short = h.short;
-    chained = h.chained;
     leaves = h.leaves;
     around = h.around;
     stands = h.stands;
-    keeps = rw e (keeps_stays (encoder_in s enc) h.around text text' k h.keeps g);
+    keeps = rw e (keeps_stays enc h.around text text' k h.keeps g);
   }
 
 -- A FORALL'S OWN
 
-module _ (s enc text text' : List ℕ) (path : Path) (k own : Kept) (l at : ℕ) (h : Ready s enc text path k (l + 1)) (b : ℕ) (x : Fault)
+module _ (s : List ℕ) (enc : Encoder) (text text' : List ℕ) (path : Path) (k own : Kept) (l at : ℕ) (h : Ready s enc text path k (l + 1)) (b : ℕ) (x : Fault)
     (e : got x b ≡ walked header_fault (header l s at)) (u : Extends s enc at k text text' own) where
   -- the ForAll
   last : ForAll
@@ -478,15 +474,15 @@ module _ (s enc text text' : List ℕ) (path : Path) (k own : Kept) (l at : ℕ)
       let g = h.leaves.within in
       header_at l s at y.value.binder y.value.preds b (omega arith) y.is
 
-  extended : Extended (encoder_in s enc) last k text text' own
+  extended : Extended enc last k text text' own
   unfolding Extends
   extended = u last 0 last_stands
 
   -- what it has is added without reaching the largest number
-  pub own_added : ((i : ℕ) → Fits w8 (get_or s i 0)) → (k.vars + own.vars ≤ most) × (k.guards + own.guards ≤ most) × (k.count + own.count ≤ most)
-  own_added bytes =
-      let p : plus k own ≡ measured (encoder_in s enc) (h.around ++ last ∷ []) = measured_plus (encoder_in s enc) h.around (last ∷ []) k own h.keeps.measures extended.measures in
-      let g = path_short s (are_bytes s bytes) h.short (encoder_in s enc) (valid_in s enc) (entries path ++ at ∷ []) (h.around ++ last ∷ []) 0 (on_snoc s (entries path) at h.around 0 last h.stands last_stands) in
+  pub own_added : ((i : ℕ) → get_or s i 0 < 256) → Valid enc.names → (k.vars + own.vars ≤ most) × (k.guards + own.guards ≤ most) × (k.count + own.count ≤ most)
+  own_added bytes valid =
+      let p : plus k own ≡ measured enc (h.around ++ last ∷ []) = measured_plus enc h.around (last ∷ []) k own h.keeps.measures extended.measures in
+      let g = path_short s bytes h.short enc valid (entries path ++ at ∷ []) (h.around ++ last ∷ []) 0 (on_snoc s (entries path) at h.around 0 last h.stands last_stands) in
       let n = length-append (entries path) (at ∷ []) in
       let d = depth_is path (l + 1) h.leaves in
       let w = h.leaves.within in (
@@ -500,16 +496,15 @@ module _ (s enc text text' : List ℕ) (path : Path) (k own : Kept) (l at : ℕ)
     pub ready_pushed : (path' : Path) → (entries path' ≡ entries path ++ at ∷ []) × (path'.depth ≡ path.depth + 1) × (length path'.offsets ≡ 256) → Ready s enc text' path' k' l
     ready_pushed path' g = record {
       short = h.short;
-      chained = h.chained;
       leaves = leaves_pushed path path' l at h.leaves g;
       around = h.around ++ last ∷ [];
       stands = ap (on_path s) g.0 ∙ on_snoc s (entries path) at h.around 0 last h.stands last_stands;
-      keeps = keeps_extended (encoder_in s enc) last k own k' text text' extended i h.around h.keeps;
+      keeps = keeps_extended enc last k own k' text text' extended i h.around h.keeps;
     }
 
     -- what stays of the longer path stays
     pub stays_inside : (text'' : List ℕ) → Stays k' text' text'' → Stays k text text''
-    stays_inside text'' y = stays_around (encoder_in s enc) last k own k' text text' extended i text'' y
+    stays_inside text'' y = stays_around enc last k own k' text text' extended i text'' y
 
 -- coming up, the numbers are those that were given
 pub own_within : (k own k' back : Kept) → k' ≡ plus k own → back ≡ k' → Within own back

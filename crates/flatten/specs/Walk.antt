@@ -6,9 +6,7 @@ use Rattle.task.specs.Run.{Runs}
 use Rattle.task_check.specs.Walk.{read_true}
 use Rattle.path.specs.declared.Path.{Path}
 use Rattle.path.specs.Offsets.{entries, Leaves}
-use Rattle.names.specs.Table.{Chained}
 use Rattle.smt_text.specs.Encoder.{Encoder}
-use Rattle.smt_sort.specs.Section.{encoder_in}
 use Rattle.horn_text.specs.Clauses.{ForAll}
 use Rattle.assertion.specs.declared.Kept.{Kept}
 use Rattle.assertion.specs.Kept.{measured, fits, Keeps}
@@ -19,16 +17,15 @@ use Rattle.flatten.specs.declared.Walk.{Walk}
 use Rattle.flatten.specs.declared.Row.{Row}
 use Rattle.flatten.specs.Parts.{Writing, writing, has, place, Puts, head_parts, member_parts}
 
--- A walk may go on: the offsets of the file have two bytes, the table of names can be searched, and the path has room for the levels that are
--- left. W-202: ForAlls stand at the path's offsets, and the numbers that are kept are equal to those of their binders and guards measured afresh,
--- here and so at each head (`Keeps`, `measures`).
-pub record Ready (s enc text : List ℕ) (path : Path) (kept : Kept) (levels : ℕ) : Type 0 where
+-- A walk may go on: the offsets of the file have two bytes, and the path has room for the levels that are left. W-202: ForAlls stand at the path's
+-- offsets, and the numbers that are kept are equal to those of their binders and guards measured afresh, here and so at each head (`Keeps`,
+-- `measures`).
+pub record Ready (s : List ℕ) (enc : Encoder) (text : List ℕ) (path : Path) (kept : Kept) (levels : ℕ) : Type 0 where
   pub short : length s < 65536
-  pub chained : Chained s enc
   pub leaves : Leaves path levels
   pub around : List ForAll
   pub stands : on_path s (entries path) ≡ got around 0
-  pub keeps : Keeps (encoder_in s enc) around text kept
+  pub keeps : Keeps enc around text kept
 
 -- W-202: behind a constraint, and so behind a ForAll, the numbers are what they were before it.
 abbrev pub Restores : Walk → Walk → Type 0
@@ -53,18 +50,18 @@ unfoldable pub Places : Encoder → List ForAll → Res Pred → Writing → Wri
 Places enc fs d w w' at = Runs (λ v p. place v (assert_text enc fs p)) d w w' at
 
 -- So it was under the ForAlls of which the numbers are kept, under those of which the text is kept, and under those of a path.
-unfoldable pub MeasuredPlaces : List ℕ → List ℕ → Kept → Res Pred → Writing → Writing → ℕ → Type 0
-MeasuredPlaces s enc kept d w w' at = (fs : List ForAll) → kept ≡ measured (encoder_in s enc) fs → Places (encoder_in s enc) fs d w w' at
+unfoldable pub MeasuredPlaces : Encoder → Kept → Res Pred → Writing → Writing → ℕ → Type 0
+MeasuredPlaces enc kept d w w' at = (fs : List ForAll) → kept ≡ measured enc fs → Places enc fs d w w' at
 
-unfoldable pub KeptPlaces : List ℕ → List ℕ → List ℕ → Kept → Res Pred → Writing → Writing → ℕ → Type 0
-KeptPlaces s enc text kept d w w' at = (fs : List ForAll) → Keeps (encoder_in s enc) fs text kept → Places (encoder_in s enc) fs d w w' at
+unfoldable pub KeptPlaces : Encoder → List ℕ → Kept → Res Pred → Writing → Writing → ℕ → Type 0
+KeptPlaces enc text kept d w w' at = (fs : List ForAll) → Keeps enc fs text kept → Places enc fs d w w' at
 
 unfoldable pub PathPlaces : Encoder → Res (List ForAll) → Res Pred → Writing → Writing → ℕ → Type 0
 PathPlaces enc path d w w' at = (fs : List ForAll) (q : ℕ) → path ≡ got fs q → Places enc fs d w w' at
 
 -- The parts of a head under the ForAlls of which the text is kept were put.
-unfoldable pub KeptPuts : List ℕ → List ℕ → List ℕ → Kept → Res Pred → Writing → Writing → ℕ → Type 0
-KeptPuts s enc text kept d w w' at = (fs : List ForAll) → Keeps (encoder_in s enc) fs text kept → Puts (head_parts (encoder_in s enc) fs) d w w' at
+unfoldable pub KeptPuts : Encoder → List ℕ → Kept → Res Pred → Writing → Writing → ℕ → Type 0
+KeptPuts enc text kept d w w' at = (fs : List ForAll) → Keeps enc fs text kept → Puts (head_parts enc fs) d w w' at
 
 -- Some constraints of a row were put, and n' of them are left: whoever puts those has put the row, under any ForAlls for which the condition holds.
 unfoldable pub Onward : (List ForAll → Type 0) → Encoder → ℕ → List ℕ → ℕ → ℕ → Writing → ℕ → ℕ → Writing → Type 0
@@ -74,6 +71,6 @@ Onward holds enc l s n at w n' at' w' =
     → Puts (member_parts enc fs) (many Constraints.none Constraints.more (dec_constraint l) n s at) w z t
 
 -- So it was with heads under the ForAlls of which the text is kept.
-abbrev pub HeadsPut : List ℕ → List ℕ → List ℕ → ℕ → Row → Writing → Row → Writing → Type 0
+abbrev pub HeadsPut : List ℕ → Encoder → List ℕ → ℕ → Row → Writing → Row → Writing → Type 0
 HeadsPut s enc text l row w rest w' =
-    Onward (λ fs. Keeps (encoder_in s enc) fs text row.from.kept) (encoder_in s enc) l s row.left row.from.moved.at w rest.left rest.from.moved.at w'
+    Onward (λ fs. Keeps enc fs text row.from.kept) enc l s row.left row.from.moved.at w rest.left rest.from.moved.at w'

@@ -9,8 +9,7 @@ ghost use Rattle.task.specs.Ast.{Constraints};
 ghost use Rattle.task.specs.Decode.{many, dec_pred, dec_constraint};
 ghost use Rattle.path.specs.Offsets.{entries, Leaves};
 ghost use Rattle.constraint_check.specs.Around.{is_head, for_all};
-ghost use Rattle.names.specs.Table.{Chained};
-ghost use Rattle.smt_sort.specs.Section.{encoder_in};
+ghost use Rattle.smt_sort.specs.Section.{encoder_by};
 ghost use Rattle.output.specs.Emit.{most};
 ghost use Rattle.assertion.specs.Kept.{plus, minus, Within, fits, Stays, Numbers};
 ghost use Rattle.assertion.specs.Under.{on_path};
@@ -20,6 +19,7 @@ ghost use Rattle.flatten.specs.Walk.{enough as enough_is, wanted, Passes, Measur
 use assertion::Kept;
 use output::Out;
 use path::Path;
+use smt_sort::Encoder;
 use task::ConstraintNode;
 
 // The numbers of the parts that are written: from one up to, not including, another.
@@ -201,17 +201,15 @@ fn pass_head(s: &[u8], from: Moved, levels: usize) -> Moved
 // Measures the assertion of a head from the lengths that are kept of the ForAlls around it.
 #[tactic(auto, using(crate::proofs::Flattening::measured_placed))]
 fn measure_assert(
-    s: &[u8],
+    enc: Encoder,
     from: Moved,
     levels: usize,
     kept: Kept,
-    enc: &[u16],
     lengths: &mut [u32],
 ) -> Moved
-    requires { Chained s.now enc.now }
-    ensures { MeasuredPlaces s.now enc.now kept (dec_pred levels s.now from.at) (writing from.progress [] lengths.old) (writing result.progress [] lengths.new) result.at }
+    ensures { MeasuredPlaces (encoder_by enc.entry) kept (dec_pred levels enc.entry.file.now from.at) (writing from.progress [] lengths.old) (writing result.progress [] lengths.new) result.at }
 {
-    let sent = assertion::measure_assert(s, from.at, levels, kept, enc);
+    let sent = assertion::measure_assert(enc, from.at, levels, kept);
     Moved {
         at: sent.at,
         progress: from.progress.placed(sent.out.len, lengths),
@@ -221,26 +219,24 @@ fn measure_assert(
 // Puts the assertion of a head behind the last written byte, from the text that is kept of the ForAlls around it.
 #[tactic(auto, using(crate::proofs::Flattening::kept_placed))]
 fn put_assert(
-    s: &[u8],
+    enc: Encoder,
     from: Moved,
     levels: usize,
     kept: Kept,
     text: &[u8],
-    enc: &[u16],
     buf: &mut [u8],
     lengths: &mut [u32],
 ) -> Moved
-    requires { Chained s.now enc.now × (fits (length text.now) kept ≡ true) }
-    ensures { KeptPlaces s.now enc.now text.now kept (dec_pred levels s.now from.at) (writing from.progress buf.old lengths.old) (writing result.progress buf.new lengths.new) result.at }
+    requires { fits (length text.now) kept ≡ true }
+    ensures { KeptPlaces (encoder_by enc.entry) text.now kept (dec_pred levels enc.entry.file.now from.at) (writing from.progress buf.old lengths.old) (writing result.progress buf.new lengths.new) result.at }
 {
     let start = from.progress.len.min(buf.len());
     let sent = assertion::write_assert(
-        s,
+        enc,
         from.at,
         levels,
         kept,
         text,
-        enc,
         &mut buf[start..],
         Out::new(),
     );
@@ -253,27 +249,25 @@ fn put_assert(
 // The same from the path and the number of its guards.
 #[tactic(auto, using(crate::proofs::Flattening::path_placed))]
 fn put_long_assert(
-    s: &[u8],
+    enc: Encoder,
     from: Moved,
     levels: usize,
     path: Path,
     count: u64,
-    enc: &[u16],
     buf: &mut [u8],
     lengths: &mut [u32],
 ) -> Moved
-    requires chained { Chained s.now enc.now × Leaves path 0 }
-    requires numbers { Numbers s.now (entries path) count }
-    ensures { PathPlaces (encoder_in s.now enc.now) (on_path s.now (entries path)) (dec_pred levels s.now from.at) (writing from.progress buf.old lengths.old) (writing result.progress buf.new lengths.new) result.at }
+    requires leaves { Leaves path 0 }
+    requires numbers { Numbers enc.file.now (entries path) count }
+    ensures { PathPlaces (encoder_by enc.entry) (on_path enc.entry.file.now (entries path)) (dec_pred levels enc.entry.file.now from.at) (writing from.progress buf.old lengths.old) (writing result.progress buf.new lengths.new) result.at }
 {
     let start = from.progress.len.min(buf.len());
     let sent = assertion::write_long_assert(
-        s,
+        enc,
         from.at,
         levels,
         path,
         count,
-        enc,
         &mut buf[start..],
         Out::new(),
     );
@@ -293,47 +287,45 @@ fn is_enough(kept: Kept, size: usize, room: usize) -> bool
 // Such a head.
 #[tactic(auto, using(crate::proofs::Flattening::kept_passed, crate::proofs::Flattening::measured_wanted, crate::proofs::Flattening::kept_wanted, crate::proofs::Flattening::enough_room))]
 fn flatten_kept_head(
-    s: &[u8],
+    enc: Encoder,
     from: Moved,
     levels: usize,
     kept: Kept,
     text: &[u8],
-    enc: &[u16],
     buf: &mut [u8],
     lengths: &mut [u32],
 ) -> Moved
-    requires { Chained s.now enc.now × (enough_is (length text.now) (length buf.old) kept ≡ true) }
-    ensures { KeptPuts s.now enc.now text.now kept (dec_pred levels s.now from.at) (writing from.progress buf.old lengths.old) (writing result.progress buf.new lengths.new) result.at }
+    requires { enough_is (length text.now) (length buf.old) kept ≡ true }
+    ensures { KeptPuts (encoder_by enc.entry) text.now kept (dec_pred levels enc.entry.file.now from.at) (writing from.progress buf.old lengths.old) (writing result.progress buf.new lengths.new) result.at }
 {
-    if !is_wanted(s, from, levels) {
-        return pass_head(s, from, levels);
+    if !is_wanted(enc.file, from, levels) {
+        return pass_head(enc.file, from, levels);
     }
     if buf.is_empty() {
-        return measure_assert(s, from, levels, kept, enc, lengths);
+        return measure_assert(enc, from, levels, kept, lengths);
     }
-    put_assert(s, from, levels, kept, text, enc, buf, lengths)
+    put_assert(enc, from, levels, kept, text, buf, lengths)
 }
 
 // Such heads in a row, from the first, which is one, to the row's end or to a constraint that is no head.
 fn flatten_heads(
-    s: &[u8],
+    enc: Encoder,
     row: Row,
     levels: usize,
     text: &[u8],
-    enc: &[u16],
     buf: &mut [u8],
     lengths: &mut [u32],
 ) -> Row
-    requires chained { Chained s.now enc.now × (enough_is (length text.now) (length buf.old) row.from.kept ≡ true) }
-    requires at_head { (is_head levels s.now row.from.moved.at ≡ true) × (0 < row.left) }
-    ensures heads_put { HeadsPut s.now enc.now text.now levels row (writing row.from.moved.progress buf.old lengths.old) result (writing result.from.moved.progress buf.new lengths.new) }
+    requires enough { enough_is (length text.now) (length buf.old) row.from.kept ≡ true }
+    requires at_head { (is_head levels enc.file.now row.from.moved.at ≡ true) × (0 < row.left) }
+    ensures heads_put { HeadsPut enc.entry.file.now (encoder_by enc.entry) text.now levels row (writing row.from.moved.progress buf.old lengths.old) result (writing result.from.moved.progress buf.new lengths.new) }
     ensures fewer_left { (result.left < row.left) × (result.from.kept ≡ row.from.kept) }
 {
     let Walk { mut moved, kept } = row.from;
     for i in 0..row.left {
         let head = moved.to(moved.at + 1);
-        moved = flatten_kept_head(s, head, levels - 1, kept, text, enc, buf, lengths);
-        if !constraint_check::is_head(s, moved.at, levels) {
+        moved = flatten_kept_head(enc, head, levels - 1, kept, text, buf, lengths);
+        if !constraint_check::is_head(enc.file, moved.at, levels) {
             return Row {
                 from: Walk { moved, kept },
                 left: row.left - i - 1,
@@ -349,40 +341,38 @@ fn flatten_heads(
 // A head of which the assertion is written from the path.
 #[tactic(auto, using(crate::proofs::Flattening::path_passed, crate::proofs::Flattening::path_wanted))]
 fn flatten_head(
-    s: &[u8],
+    enc: Encoder,
     from: Walk,
     levels: usize,
     path: Path,
-    enc: &[u16],
     buf: &mut [u8],
     lengths: &mut [u32],
 ) -> Moved
-    requires chained { Chained s.now enc.now × Leaves path 0 }
-    requires numbers { Numbers s.now (entries path) from.kept.count }
-    ensures { PutsUnder (head_parts (encoder_in s.now enc.now)) (on_path s.now (entries path)) (dec_pred levels s.now from.moved.at) (writing from.moved.progress buf.old lengths.old) (writing result.progress buf.new lengths.new) result.at }
+    requires leaves { Leaves path 0 }
+    requires numbers { Numbers enc.file.now (entries path) from.kept.count }
+    ensures { PutsUnder (head_parts (encoder_by enc.entry)) (on_path enc.entry.file.now (entries path)) (dec_pred levels enc.entry.file.now from.moved.at) (writing from.moved.progress buf.old lengths.old) (writing result.progress buf.new lengths.new) result.at }
 {
     let Walk { moved, kept } = from;
-    if is_wanted(s, moved, levels) {
-        return put_long_assert(s, moved, levels, path, kept.count, enc, buf, lengths);
+    if is_wanted(enc.file, moved, levels) {
+        return put_long_assert(enc, moved, levels, path, kept.count, buf, lengths);
     }
-    pass_head(s, moved, levels)
+    pass_head(enc.file, moved, levels)
 }
 
 // The constraint at a position, inside the ForAlls of the path.
 #[tactic(auto, using(crate::proofs::Flattening::none_left, crate::proofs::Flattening::node_refused, crate::proofs::Flattening::node_conj, crate::proofs::Flattening::node_for_all, crate::proofs::Flattening::kept_numbers, crate::proofs::Flattening::ready_fewer))]
 #[cycle(constraints)]
 pub fn flatten_constraint(
-    s: &[u8],
+    enc: Encoder,
     from: Walk,
     levels: usize,
     path: Path,
-    enc: &[u16],
     buf: &mut [u8],
     text: &mut [u8],
     lengths: &mut [u32],
 ) -> Walk
-    requires { Ready s.now enc.now text.old path from.kept levels }
-    ensures puts_under { PutsUnder (clause_parts (encoder_in s.now enc.now)) (on_path s.now (entries path)) (dec_constraint levels s.now from.moved.at) (writing from.moved.progress buf.old lengths.old) (writing result.moved.progress buf.new lengths.new) result.moved.at }
+    requires { Ready enc.file.now (encoder_by enc) text.old path from.kept levels }
+    ensures puts_under { PutsUnder (clause_parts (encoder_by enc.entry)) (on_path enc.entry.file.now (entries path)) (dec_constraint levels enc.entry.file.now from.moved.at) (writing from.moved.progress buf.old lengths.old) (writing result.moved.progress buf.new lengths.new) result.moved.at }
     ensures restores { Restores from result }
     ensures stays { Stays from.kept text.old text.new }
 {
@@ -391,22 +381,24 @@ pub fn flatten_constraint(
     }
     let below = levels - 1;
     let at = from.moved.at;
-    if is_enough(from.kept, text.len(), buf.len()) && constraint_check::is_head(s, at, levels) {
-        return flatten_heads(s, from.row(at, 1), levels, text, enc, buf, lengths).from;
+    if is_enough(from.kept, text.len(), buf.len())
+        && constraint_check::is_head(enc.file, at, levels)
+    {
+        return flatten_heads(enc, from.row(at, 1), levels, text, buf, lengths).from;
     }
-    let Ok((node, p)) = task::read_constraint_node(s, at) else {
+    let Ok((node, p)) = task::read_constraint_node(enc.file, at) else {
         return from;
     };
     match node {
         ConstraintNode::Pred => {
-            let moved = flatten_head(s, from.to(p), below, path, enc, buf, lengths);
+            let moved = flatten_head(enc, from.to(p), below, path, buf, lengths);
             Walk { moved, ..from }
         }
         ConstraintNode::Conj(n) => {
-            flatten_members(s, from.row(p, n), below, path, enc, buf, text, lengths)
+            flatten_members(enc, from.row(p, n), below, path, buf, text, lengths)
         }
         ConstraintNode::ForAll => {
-            flatten_for_all(s, from.to(p), below, path, enc, buf, text, lengths)
+            flatten_for_all(enc, from.to(p), below, path, buf, text, lengths)
         }
     }
 }
@@ -415,29 +407,29 @@ pub fn flatten_constraint(
 #[tactic(auto, using(crate::proofs::Flattening::members_start, crate::proofs::Flattening::members_more, crate::proofs::Flattening::members_end, crate::proofs::Flattening::ready_stays))]
 #[cycle(constraints)]
 fn flatten_members(
-    s: &[u8],
+    enc: Encoder,
     row: Row,
     levels: usize,
     path: Path,
-    enc: &[u16],
     buf: &mut [u8],
     text: &mut [u8],
     lengths: &mut [u32],
 ) -> Walk
-    requires { Ready s.now enc.now text.old path row.from.kept levels }
-    ensures puts_under { PutsUnder (member_parts (encoder_in s.now enc.now)) (on_path s.now (entries path)) (many Constraints.none Constraints.more (dec_constraint levels) row.left s.now row.from.moved.at) (writing row.from.moved.progress buf.old lengths.old) (writing result.moved.progress buf.new lengths.new) result.moved.at }
+    requires { Ready enc.file.now (encoder_by enc) text.old path row.from.kept levels }
+    ensures puts_under { PutsUnder (member_parts (encoder_by enc.entry)) (on_path enc.entry.file.now (entries path)) (many Constraints.none Constraints.more (dec_constraint levels) row.left enc.entry.file.now row.from.moved.at) (writing row.from.moved.progress buf.old lengths.old) (writing result.moved.progress buf.new lengths.new) result.moved.at }
     ensures restores { Restores row.from result }
     ensures stays { Stays row.from.kept text.old text.new }
 {
     let Row { mut from, mut left } = row;
     let enough = is_enough(from.kept, text.len(), buf.len());
+    // a while: a step takes one member, or all heads from one on
     while 0 < left {
-        if enough && constraint_check::is_head(s, from.moved.at, levels) {
-            let rest = flatten_heads(s, Row { from, left }, levels, text, enc, buf, lengths);
+        if enough && constraint_check::is_head(enc.file, from.moved.at, levels) {
+            let rest = flatten_heads(enc, Row { from, left }, levels, text, buf, lengths);
             from = rest.from;
             left = rest.left;
         } else {
-            from = flatten_constraint(s, from, levels, path, enc, buf, text, lengths);
+            from = flatten_constraint(enc, from, levels, path, buf, text, lengths);
             left -= 1;
         }
     }
@@ -448,35 +440,25 @@ fn flatten_members(
 #[tactic(auto, using(crate::proofs::Flattening::for_all_unheaded, crate::proofs::Flattening::for_all_puts, crate::proofs::Flattening::header_offset, crate::proofs::Flattening::ready_pushed, crate::proofs::Flattening::own_within, crate::proofs::Flattening::own_back))]
 #[cycle(constraints)]
 fn flatten_for_all(
-    s: &[u8],
+    enc: Encoder,
     from: Walk,
     levels: usize,
     mut path: Path,
-    enc: &[u16],
     buf: &mut [u8],
     text: &mut [u8],
     lengths: &mut [u32],
 ) -> Walk
-    requires { Ready s.now enc.now text.old path from.kept (levels + 1) }
-    ensures puts_under { PutsUnder (clause_parts (encoder_in s.now enc.now)) (on_path s.now (entries path)) (for_all levels s.now from.moved.at) (writing from.moved.progress buf.old lengths.old) (writing result.moved.progress buf.new lengths.new) result.moved.at }
+    requires { Ready enc.file.now (encoder_by enc) text.old path from.kept (levels + 1) }
+    ensures puts_under { PutsUnder (clause_parts (encoder_by enc.entry)) (on_path enc.entry.file.now (entries path)) (for_all levels enc.entry.file.now from.moved.at) (writing from.moved.progress buf.old lengths.old) (writing result.moved.progress buf.new lengths.new) result.moved.at }
     ensures restores { Restores from result }
     ensures stays { Stays from.kept text.old text.new }
 {
     let at = from.moved.at;
-    let Ok((_, body)) = constraint_check::check_header(s, at, levels) else {
+    let Ok((_, body)) = constraint_check::check_header(enc.file, at, levels) else {
         return from;
     };
-    let own = assertion::extend(s, at, enc, text, from.kept);
+    let own = assertion::extend(enc, at, text, from.kept);
     path = path.push(at);
-    let back = flatten_constraint(
-        s,
-        from.down(body, own),
-        levels,
-        path,
-        enc,
-        buf,
-        text,
-        lengths,
-    );
+    let back = flatten_constraint(enc, from.down(body, own), levels, path, buf, text, lengths);
     back.up(own)
 }

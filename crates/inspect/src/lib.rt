@@ -10,6 +10,7 @@ ghost use Rattle.inspect.specs.Inspect.{numbered, inspected_of, Room, Names};
 ghost use Rattle.inspect.specs.Walk.{refused_by, walk_items, section_of, items_of, judge as judge_of, sound_of};
 
 use item_check::Section;
+use names::Table;
 use task::{Fault, Refusal};
 use trailer::Bounds;
 
@@ -50,6 +51,7 @@ fn check_section(s: &[u8], at: usize, section: Section) -> Listed
     let mut p = at;
     let mut count: u64 = 0;
     let mut fault = Fault::Sound;
+    // a while: items have no count, and where one ends is known when it is read
     while p < s.len() {
         let (f, q) = item_check::check_item(s, p, section)?;
         p = q;
@@ -126,6 +128,7 @@ pub fn inspect(file: &[u8], table: &mut [u16]) -> Result<Inspected, Refusal>
 {
     let sound = check_pieces(file)?;
     let b = sound.bounds;
-    let fault = scope::judge_names(file, b, table);
+    let mut names = Table { file, words: table };
+    let fault = scope::judge_names(&mut names, b);
     judge(b, sound.declarations, sound.heads, fault)
 }

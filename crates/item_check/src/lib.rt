@@ -44,14 +44,7 @@ fn check_ctor(s: &[u8], at: usize) -> Read<Fault>
 fn check_ctors(s: &[u8], at: usize, n: u64) -> Read<Fault>
     ensures { read_of result ≡ walked (each data_ctor_fault) (many [] ◌∷◌ data_ctor n s.now at) }
 {
-    let mut p = at;
-    let mut fault = Fault::Sound;
-    for _ in 0..n {
-        let (f, q) = check_ctor(s, p)?;
-        p = q;
-        fault = fault.lower(f);
-    }
-    Ok((fault, p))
+    task_check::check_row(at, n, |p| check_ctor(s, p))
 }
 
 // The fault of a datatype without constructors.
@@ -80,14 +73,7 @@ fn check_datatype(s: &[u8], at: usize) -> Read<Fault>
 pub fn check_names(s: &[u8], at: usize, n: u64) -> Read<Fault>
     ensures { read_of result ≡ walked (each name_fault) (many [] ◌∷◌ name n s.now at) }
 {
-    let mut p = at;
-    let mut fault = Fault::Sound;
-    for _ in 0..n {
-        let (f, q) = check_name(s, p)?;
-        p = q;
-        fault = fault.lower(f);
-    }
-    Ok((fault, p))
+    task_check::check_row(at, n, |p| check_name(s, p))
 }
 
 // A name.

@@ -10,26 +10,14 @@ ghost use Rattle.horn_text.specs.Demand.{Promised};
 ghost use Rattle.smt_horn.specs.Calls.{written as answered};
 ghost use Rattle.jiggerreef.specs.Archive.{number, stored};
 
-use smt_text::Edition;
 use task::Refusal;
-
-// The edition of a number: 0 is Z3, any other cvc5.
-#[tactic(auto, unfolding(smt_text::specs::Editions::edition_of))]
-fn edition_of(number: u8) -> Edition
-    ensures { result ≡ edition_of number }
-{
-    match number {
-        0 => Edition::Z3,
-        _ => Edition::Cvc5,
-    }
-}
 
 // Stores the numbers of parts and of assertions, the length of the script and that of its longest part; or answers the number of the
 // refusal.
 pub fn jiggerreef_survey(file: &[u8], edition: u8, sizes: &mut [usize; 4]) -> u8
     ensures { (result ≡ number (survey_answer (names_of (edition_of edition)) file.now)) × (sizes.new ≡ stored (survey_answer (names_of (edition_of edition)) file.now) sizes.old) }
 {
-    match smt_horn::survey(file, edition_of(edition)) {
+    match smt_horn::survey(file, edition.into()) {
         Ok(found) => {
             *sizes = [found.parts, found.assertions, found.len, found.longest];
             0
@@ -56,7 +44,7 @@ fn store_length(written: Result<usize, Refusal>, len: &mut usize) -> u8
 pub fn jiggerreef_part(file: &[u8], buf: &mut [u8], edition: u8, i: usize, len: &mut usize) -> u8
     ensures { (result ≡ number (part_answer (names_of (edition_of edition)) file.now i (length buf.old))) × (len.new ∷ [] ≡ stored (part_answer (names_of (edition_of edition)) file.now i (length buf.old)) (len.old ∷ [])) × (buf.new ≡ part_buffer (names_of (edition_of edition)) file.now i buf.old) }
 {
-    let written = smt_horn::part(file, edition_of(edition), i, buf);
+    let written = smt_horn::part(file, edition.into(), i, buf);
     store_length(written, len)
 }
 
@@ -74,7 +62,7 @@ pub fn jiggerreef_run(
 ) -> u8
     ensures { (result ≡ number (run_answer (names_of (edition_of edition)) file.now first count (length buf.old) (length lengths.old))) × (len.new ∷ [] ≡ stored (run_answer (names_of (edition_of edition)) file.now first count (length buf.old) (length lengths.old)) (len.old ∷ [])) × (buf.new ≡ run_buffer (names_of (edition_of edition)) file.now first count buf.old lengths.old) × (lengths.new ≡ run_table (names_of (edition_of edition)) file.now first count buf.old lengths.old) }
 {
-    let written = smt_horn::run(file, edition_of(edition), first, count, buf, lengths);
+    let written = smt_horn::run(file, edition.into(), first, count, buf, lengths);
     store_length(written, len)
 }
 
@@ -84,6 +72,6 @@ pub fn jiggerreef_script(file: &[u8], buf: &mut [u8], edition: u8, len: &mut usi
     ensures value { (result ≡ number (script_answer (names_of (edition_of edition)) file.now (length buf.old))) × (len.new ∷ [] ≡ stored (script_answer (names_of (edition_of edition)) file.now (length buf.old)) (len.old ∷ [])) × (buf.new ≡ script_buffer (names_of (edition_of edition)) file.now buf.old) }
     ensures promised { Promised (names_of (edition_of edition)) file.now buf.old buf.new }
 {
-    let written = smt_horn::script(file, edition_of(edition), buf);
+    let written = smt_horn::script(file, edition.into(), buf);
     store_length(written, len)
 }

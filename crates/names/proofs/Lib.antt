@@ -3,3 +3,4 @@ pub mod Bytes
 pub mod Lasts
 pub mod Chains
 pub mod Theorems
+pub mod Sames

@@ -8,6 +8,10 @@ ghost use Rattle.smtlib.specs.Lexicon.{same};
 ghost use Rattle.names.specs.Table.{number_of, name_at, has_name, Named, hash_of, count_of, offset_of, symbol_of, entries, fits, last_of, room_for, Chained};
 ghost use Rattle.names.specs.Change.{Pushed, Popped};
 
+mod table;
+
+pub use table::Table;
+
 // What an entry's name is the name of. A search asks for a range of kinds in this order.
 #[derive(Clone, Copy, PartialEq, Eq, PartialOrd, Ord, Debug)]
 pub enum Kind {
@@ -22,10 +26,12 @@ pub enum Kind {
 }
 
 // A kind as it stands in the table.
-fn number_of(kind: Kind) -> u16
-    ensures { result ≡ number_of kind }
-{
-    kind as u16
+impl From<Kind> for u16 {
+    ghost from_gives = { λ kind n. n ≡ number_of kind };
+
+    fn from(kind: Kind) -> u16 {
+        kind as u16
+    }
 }
 
 // The bucket of a name.
@@ -69,10 +75,11 @@ pub fn find(s: &[u8], table: &[u16], name: &[u8], lowest: Kind, highest: Kind) -
     requires { Chained s.now table.now }
     ensures { result ≡ last_of (fits name.now (number_of lowest) (number_of highest)) (entries s.now table.now) }
 {
-    let low = number_of(lowest);
-    let high = number_of(highest);
+    let low = u16::from(lowest);
+    let high = u16::from(highest);
     let h = 2 + hash(name);
     let mut link = usize::from(table[h]);
+    // a while: it follows the chain of a bucket
     while 0 < link {
         let k = link - 1;
         if is_entry(s, table, k, name, low, high) {
@@ -122,7 +129,7 @@ pub fn push(s: &[u8], table: &mut [u16], offset: usize, kind: Kind)
 {
     let n = usize::from(table[1]);
     if has_name(s, offset) && room_for(table.len(), n) {
-        place(s, table, n, offset, number_of(kind));
+        place(s, table, n, offset, kind.into());
     }
 }
 

@@ -1,11 +1,11 @@
 -- What the steps of a writer add up to: laws over the decoder's answers and the texts.
 use mathlib.Core.Path.{◌≡◌, refl, sym, ap, ◌∙◌}
 use mathlib.Core.List.{List, [], ◌∷◌}
-use Prim.Native.Nat.{ℕ, zero, suc, ◌-◌, ◌<◌, ◌≤◌}
+use Prim.Native.Nat.{ℕ, zero, suc, ◌-◌}
 use native.Mathlib.Omega.{arith}
 use Rattle.task.specs.Decode.{Res, got, refuse, bind, Decoder, many}
 use Rattle.task.proofs.Reading.{bind_got}
-use Rattle.task.proofs.Running.{runs_refused, runs_end, runs_then, Steps, Owing, owing_start, owing_more, owing_end}
+use Rattle.task.proofs.Running.{runs_refused, runs_end, runs_then}
 use Rattle.smt_text.specs.Text.{spaced, sexp_list}
 use Rattle.output.specs.Emit.{Output, emit, emits, Sends}
 use Rattle.output.proofs.Sent.{emits_append}
@@ -30,7 +30,7 @@ pub sends_map : {A B : Type 0} (text : A → List ℕ) (k : B → A) (x : Res B)
     → Sends text (bind x (λ b q. got (k b) q)) o o' r
 sends_map text k x o o' r w = sends_then text o o' r (λ b. text (k b)) x (λ b q. got (k b) q) o o' r w (λ b e v. sends_end text o o' r (k b) r refl v)
 
--- LOOPS
+-- PIECES IN A ROW
 
 -- the texts of pieces in a row
 pub record Row {A R : Type 0} (end : R) (more : A → R → R) (one : A → List ℕ) (all : R → List (List ℕ)) : Type 0 where
@@ -38,14 +38,6 @@ pub record Row {A R : Type 0} (end : R) (more : A → R → R) (one : A → List
   pub step : (a : A) (r : R) → all (more a r) ≡ one a ∷ all r
 
 module _ {A R : Type 0} {end : R} {more : A → R → R} {one : A → List ℕ} {all : R → List (List ℕ)} (row : Row end more one all) (d : Decoder A) (s : List ℕ) where
-  -- they are sent with a space before each
-  spaces : Steps end more (λ (o : Output) (a : A). emits (emit o 32) (one a)) (λ o r. emits o (spaced (all r)))
-  unfolding emits
-  spaces = record {
-    none = λ w. rw row.none refl;
-    step = λ w a r. rw (row.step a r) (emits_append (emit w 32) (one a) (spaced (all r)));
-  }
-
   -- a row by its first piece
   record First (n p : ℕ) (b : R) (q : ℕ) : Type 0 where
     head : A

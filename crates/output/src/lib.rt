@@ -133,6 +133,7 @@ fn fill_last(bytes: &mut [u8], end: usize, n: u64) -> usize
 {
     let mut i = end - 1;
     let mut m = n;
+    // a while: that a digit is the first is known when it is divided off
     while 10 <= m {
         bytes[i] = 48 + (m % 10) as u8;
         m /= 10;
@@ -150,6 +151,7 @@ fn digits_of(lo: u64, hi: u64, keep: bool) -> Digits
     let mut end: usize = 45;
     let mut l = lo;
     let mut h = hi;
+    // a while: the same of the first nine digits
     while !is_short(l, h) {
         let q = divide(l, h);
         if keep {

@@ -17,7 +17,7 @@ use Rattle.trailer.specs.Bounds.{bounds_of, start_of, end_of}
 use Rattle.path.specs.declared.Path.{Path}
 use Rattle.path.specs.Offsets.{entries as offsets_on}
 use Rattle.path.proofs.Entries.{leaves_empty}
-use Rattle.names.specs.Table.{Chained, entries}
+use Rattle.names.specs.Table.{entries}
 use Rattle.declared.specs.Symbols.{symbols_of}
 use Rattle.smt_text.specs.Encoder.{Encoder}
 use Rattle.smt_text.specs.Text.{write_datatype_decl, write_const_decl, write_fun_def, write_kvar_decl}
@@ -40,11 +40,11 @@ use Rattle.parts.specs.Whole.{item_text, opening_part, each, PutsAll, section_te
 -- DECLARATIONS
 
 -- where a section begins and ends, as the code has it
-pub section_put : (file enc : List ℕ) (b : Bounds) (i : Section) (at end : ℕ) (w w' : Writing) → at ≡ start_of b i → end ≡ end_of b i
-    → PutsAll each (section (item_text (encoder_in file enc) i) (take end file) at) w w' → PutsAll each (section_texts file enc b i) w w'
+pub section_put : (file : List ℕ) (enc : Encoder) (b : Bounds) (i : Section) (at end : ℕ) (w w' : Writing) → at ≡ start_of b i → end ≡ end_of b i
+    → PutsAll each (section (item_text enc i) (take end file) at) w w' → PutsAll each (section_texts file enc b i) w w'
 section_put file enc b i at end w w' e e' u = rw (e, e') at u
 
-pub declarations_put : (file enc : List ℕ) (b : Bounds) (w w1 w2 w3 w4 : Writing)
+pub declarations_put : (file : List ℕ) (enc : Encoder) (b : Bounds) (w w1 w2 w3 w4 : Writing)
     → PutsAll each (section_texts file enc b Datatypes) w w1
     → PutsAll each (section_texts file enc b Constants) w1 w2
     → PutsAll each (section_texts file enc b Functions) w2 w3
@@ -69,21 +69,20 @@ declarations_put file enc b w w1 w2 w3 w4 u1 u2 u3 u4 us q e =
 -- ASSERTIONS
 
 -- the walk may begin without ForAlls around it
-pub ready_start : (file enc text : List ℕ) (p : Path) (k : Kept) → length file ≤ 60000 → Chained file enc → (offsets_on p ≡ []) × (p.depth ≡ 0) × (length p.offsets ≡ 256)
+pub ready_start : (file : List ℕ) (enc : Encoder) (text : List ℕ) (p : Path) (k : Kept) → length file ≤ 60000 → (offsets_on p ≡ []) × (p.depth ≡ 0) × (length p.offsets ≡ 256)
     → (k.vars ≡ 0) × (k.guards ≡ 0) × (k.count ≡ 0) → Ready file enc text p k deepest
 unfolding on_path
-ready_start file enc text p k f h e g = record {
+ready_start file enc text p k f e g = record {
   short = omega arith;
-  chained = h;
   leaves = leaves_empty p e;
   around = [];
   stands = rw e.0;
-  keeps = keeps_start (encoder_in file enc) text k g;
+  keeps = keeps_start enc text k g;
 }
 
-pub assertions_put : (file enc : List ℕ) (b : Bounds) (os : List ℕ) (w w' : Writing) (q : ℕ) → os ≡ []
-    → PutsUnder (clause_parts (encoder_in file enc)) (on_path file os) (dec_constraint deepest file b.constraint) w w' q
-    → PutsAll (assertion_parts file enc) (constraint_in file b) w w'
+pub assertions_put : (file : List ℕ) (enc : Encoder) (b : Bounds) (os : List ℕ) (w w' : Writing) (q : ℕ) → os ≡ []
+    → PutsUnder (clause_parts enc) (on_path file os) (dec_constraint deepest file b.constraint) w w' q
+    → PutsAll (assertion_parts enc) (constraint_in file b) w w'
 unfolding PutsAll PutsUnder Puts assertion_parts on_path
 assertions_put file enc b os w w' q e u c p g =
     (u [] 0 (rw e) c p (in_whole (dec_constraint deepest) (each_covers.constraints deepest) file b.end b.constraint c p g)).1
@@ -94,7 +93,7 @@ module _ (file enc : List ℕ) (t : Task) (o : Opened file t) (names : entries f
   is_encoder : encoder_in file enc ≡ encoder_of (names_in enc) t
   is_encoder = encoder_is file enc t names
 
-  declared : declaration_texts file enc (bounds_of file) ≡ got (declaration_parts (encoder_of (names_in enc) t) t) o.kvars_end
+  declared : declaration_texts file (encoder_in file enc) (bounds_of file) ≡ got (declaration_parts (encoder_of (names_in enc) t) t) o.kvars_end
   unfolding declaration_texts item_text
   declared =
       let ts = encoder_of (names_in enc) t in
@@ -106,13 +105,13 @@ module _ (file enc : List ℕ) (t : Task) (o : Opened file t) (names : entries f
         section_made kvar (write_kvar_decl ts) (take (bound file 5) file) (bound file 4) t.kvars o.kvars_end o.kvars,
       )
 
-  asserted : assertion_parts file enc t.constraint ≡ write_asserts (encoder_of (names_in enc) t) (clauses_of t)
+  asserted : assertion_parts (encoder_in file enc) t.constraint ≡ write_asserts (encoder_of (names_in enc) t) (clauses_of t)
   unfolding assertion_parts clause_parts
   asserted = ap (λ (ts : Encoder). write_asserts ts (clauses_of t)) is_encoder
 
   module _ (w0 w1 w2 w3 w4 w5 : Writing) where
-    put_all : PutsAll opening_part (section comment (take (bound file 1) file) (bound file 0)) w0 w1 → PutsAll each (declaration_texts file enc (bounds_of file)) w1 w2
-        → w3 ≡ put w2 (bytes "\n") → PutsAll (assertion_parts file enc) (constraint_in file (bounds_of file)) w3 w4 → w5 ≡ put w4 (bytes "\n(check-sat)\n")
+    put_all : PutsAll opening_part (section comment (take (bound file 1) file) (bound file 0)) w0 w1 → PutsAll each (declaration_texts file (encoder_in file enc) (bounds_of file)) w1 w2
+        → w3 ≡ put w2 (bytes "\n") → PutsAll (assertion_parts (encoder_in file enc)) (constraint_in file (bounds_of file)) w3 w4 → w5 ≡ put w4 (bytes "\n(check-sat)\n")
         → w5 ≡ puts w0 (parts_of (names_in enc) t)
     unfolding PutsAll closing puts
     put_all u1 u2 e3 u4 e5 =
@@ -127,13 +126,13 @@ module _ (file enc : List ℕ) (t : Task) (o : Opened file t) (names : entries f
         ∙ puts_append (put (puts (put w0 (opening t.comments)) ds) (bytes "\n")) cs (closing ∷ [])))
 
 script_put : (file enc : List ℕ) (b : Bounds) (w0 w1 w2 w3 w4 w5 : Writing) → PutsAll opening_part (section comment (take b.datatypes file) b.comments) w0 w1
-    → PutsAll each (declaration_texts file enc b) w1 w2 → w3 ≡ put w2 (bytes "\n") → PutsAll (assertion_parts file enc) (constraint_in file b) w3 w4 → w5 ≡ put w4 (bytes "\n(check-sat)\n")
+    → PutsAll each (declaration_texts file (encoder_in file enc) b) w1 w2 → w3 ≡ put w2 (bytes "\n") → PutsAll (assertion_parts (encoder_in file enc)) (constraint_in file b) w3 w4 → w5 ≡ put w4 (bytes "\n(check-sat)\n")
     → PutsScript file enc b w0 w5
 unfolding PutsScript
 script_put file enc b w0 w1 w2 w3 w4 w5 u1 u2 e3 u4 e5 t end e eb en =
     subst
-    (λ (x : Bounds). PutsAll opening_part (section comment (take x.datatypes file) x.comments) w0 w1 → PutsAll each (declaration_texts file enc x) w1 w2
-    → PutsAll (assertion_parts file enc) (constraint_in file x) w3 w4 → w5 ≡ puts w0 (parts_of (names_in enc) t))
+    (λ (x : Bounds). PutsAll opening_part (section comment (take x.datatypes file) x.comments) w0 w1 → PutsAll each (declaration_texts file (encoder_in file enc) x) w1 w2
+    → PutsAll (assertion_parts (encoder_in file enc)) (constraint_in file x) w3 w4 → w5 ≡ puts w0 (parts_of (names_in enc) t))
     (sym eb) (λ v1 v2 v4. put_all file enc t (opened file t end e) en w0 w1 w2 w3 w4 w5 v1 v2 e3 v4 e5) u1 u2 u4
 
 -- at first nothing was written
@@ -144,8 +143,8 @@ started : (p : Progress) (r : Range) (buf ls : List ℕ) → Started p r → wri
 started p r buf ls e = λ i. record { range = e.0 i; seen = e.1 i; len = e.2 i; longest = e.3 i; buf = buf; lengths = ls }
 
 pub script_from_start : (file enc : List ℕ) (b : Bounds) (r : Range) (p : Progress) (buf ls : List ℕ) (w1 w2 w3 w4 w5 : Writing) → Started p r
-    → PutsAll opening_part (section comment (take b.datatypes file) b.comments) (writing p buf ls) w1 → PutsAll each (declaration_texts file enc b) w1 w2 → w3 ≡ put w2 (bytes "\n")
-    → PutsAll (assertion_parts file enc) (constraint_in file b) w3 w4 → w5 ≡ put w4 (bytes "\n(check-sat)\n") → PutsScript file enc b (fresh r buf ls) w5
+    → PutsAll opening_part (section comment (take b.datatypes file) b.comments) (writing p buf ls) w1 → PutsAll each (declaration_texts file (encoder_in file enc) b) w1 w2 → w3 ≡ put w2 (bytes "\n")
+    → PutsAll (assertion_parts (encoder_in file enc)) (constraint_in file b) w3 w4 → w5 ≡ put w4 (bytes "\n(check-sat)\n") → PutsScript file enc b (fresh r buf ls) w5
 script_from_start file enc b r p buf ls w1 w2 w3 w4 w5 e u1 u2 e3 u4 e5 =
     subst (λ (w : Writing). PutsScript file enc b w w5) (started p r buf ls e) (script_put file enc b (writing p buf ls) w1 w2 w3 w4 w5 u1 u2 e3 u4 e5)
 

@@ -51,11 +51,11 @@ abbrev pub each : List (List ℕ) → List (List ℕ)
 each ts = ts
 
 -- the texts of a section of the file
-abbrev pub section_texts : List ℕ → List ℕ → Bounds → Section → Res (List (List ℕ))
-section_texts file enc b i = section (item_text (encoder_in file enc) i) (take (end_of b i) file) (start_of b i)
+abbrev pub section_texts : List ℕ → Encoder → Bounds → Section → Res (List (List ℕ))
+section_texts file enc b i = section (item_text enc i) (take (end_of b i) file) (start_of b i)
 
 -- the texts of the declarations, in section order
-unfoldable pub declaration_texts : List ℕ → List ℕ → Bounds → Res (List (List ℕ))
+unfoldable pub declaration_texts : List ℕ → Encoder → Bounds → Res (List (List ℕ))
 declaration_texts file enc b =
     bind (section_texts file enc b Datatypes) (λ ds p.
     bind (section_texts file enc b Constants) (λ cs q.
@@ -68,8 +68,8 @@ abbrev pub constraint_in : List ℕ → Bounds → Res Constraint
 constraint_in file b = dec_constraint deepest (take b.end file) b.constraint
 
 -- its assertions
-unfoldable pub assertion_parts : List ℕ → List ℕ → Constraint → List (List ℕ)
-assertion_parts file enc c = clause_parts (encoder_in file enc) [] c
+unfoldable pub assertion_parts : Encoder → Constraint → List (List ℕ)
+assertion_parts enc c = clause_parts enc [] c
 
 -- nothing was written of the parts in a range, into this buffer and this table
 abbrev pub fresh : Range → List ℕ → List ℕ → Writing

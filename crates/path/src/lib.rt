@@ -40,10 +40,3 @@ impl Path {
         &self.offsets[..self.depth]
     }
 }
-
-// An offset as a position.
-pub fn position(offset: u16) -> usize
-    ensures { result ≡ offset }
-{
-    usize::from(offset)
-}

@@ -160,6 +160,7 @@ fn read_full(file: &mut File, buf: &mut [u8]) -> usize
     ensures { IsPrefixLen result buf.new }
 {
     let mut done: usize = 0;
+    // a while: how many bytes a read gives is known when it has read
     while done < buf.len() {
         match file.read(&mut buf[done..]) {
             Ok(0) => return done,

@@ -1,28 +1,36 @@
 -- What a table says of names before and behind a scope, and pieces in a row that are walked with it.
+use Rattle.std.specs.Prelude.{Result, Ok, Err, ◌^◌}
+use Rattle.std.specs.Borrow.{MutBor}
 use mathlib.Core.Path.{◌≡◌, refl, ap, ◌∙◌}
 use mathlib.Core.List.{List, [], ◌∷◌, ◌++◌, map, append-nil}
-use Prim.Native.Nat.{ℕ, zero, suc, ◌+◌, ◌*◌, ◌-◌, ◌≤◌, ◌<◌}
+use Prim.Native.Nat.{ℕ, zero, suc, ◌+◌, ◌*◌, ◌≤◌, ◌<◌}
 use native.Mathlib.Omega.{arith}
 use lib.ListN.{length, length-append}
 use borrow.Author.Tests.{lt-ltb, le-leb}
 use Rattle.task.specs.declared.Fault.{Fault}
 use Rattle.task.specs.declared.Fault.TheVariants.{Sound}
+use Rattle.task.specs.declared.Refusal.{Refusal}
+use Rattle.task.specs.Node.{number_of, read_of}
 use Rattle.task.specs.Covers.{Covers}
 use Rattle.task.specs.Decode.{Res, got, refuse, Decoder, many, name}
 use Rattle.task.specs.Fault.{lower}
 use Rattle.task.proofs.Covering.{forward}
 use Rattle.item_check.proofs.Walks.{many_size}
-use Rattle.task_check.specs.Walk.{walked, after}
-use Rattle.task_check.proofs.Rows.{Fold, next_is, row_starts, row_goes, row_stops, row_ends as row_done}
+use Rattle.task_check.specs.Walk.{walked, Rows}
+use Rattle.task_check.proofs.Rows.{Fold, row_is, next_is, Rowing, rowing_starts, rowing_goes, rowing_stops, rowing_ends}
 use Rattle.names.specs.declared.Kind.TheVariants.{Bound}
 use Rattle.names.specs.Table.{Symbol, symbol, entries, names_of, room_for, add}
 use Rattle.names.specs.Change.{Pushed, Popped, Restored}
+use Rattle.names.specs.declared.table.Table.{Table}
+use Rattle.names.specs.Same.{Same}
 use Rattle.names.proofs.Theorems.{names_append, restored_all, restored_both, scope_ends}
+use Rattle.names.proofs.Sames.{same_table, same_both}
 use Rattle.declared.specs.Symbols.{alone, together, row_symbols}
 use Rattle.declared.specs.Gather.{adds, Collects}
 use Rattle.declared.proofs.Collecting.{stands}
 use Rattle.declared.proofs.Counting.{adds_all}
-use Rattle.scope.specs.Known.{ctors_in, vars_in, expr_in, Space}
+use Rattle.scope.specs.Known.{ctors_in, vars_in, expr_in, Space, Roomy}
+use Rattle.scope.specs.Row.{Scoped, Tells, Judges, Gives}
 
 -- SPACE
 
@@ -96,37 +104,65 @@ bound_one s t u at x p c l e h g w =
 
 -- A ROW
 
--- pieces in a row: n from `at` on, each judged by the table as it is then
-module _ {A R : Type 0} {end : R} {more : A → R → R} {size : A → ℕ} (one : List ℕ → A → Fault) (all : List ℕ → R → Fault) (fold : (t : List ℕ) → Fold end more (one t) (all t)) (d : Decoder A)
-    (c : Covers size d) (s : List ℕ) (keeps : (t u : List ℕ) → Restored s t u → one u ≡ one t) (t : List ℕ) (n at : ℕ) where
-  -- the loop: i were walked, the others stand from p on, f is the fault so far, and t has become u
-  pub record Along (u : List ℕ) (i p : ℕ) (f : Fault) : Type 0 where
-    pub restored : Restored s t u
-    pub space : Space s u p
-    pub owes : after f (walked (all t) (many end more d (n - i) s p)) ≡ walked (all t) (many end more d n s at)
+-- pieces in a row, each judged by a call: m from `at` on, by a table t
+module _ (t : Table) (tells : Tells) (m at : ℕ) where
+  -- the loop: i were judged, the others stand from p on, f is the fault so far, and t has become u
+  pub record Along (u : Table) (i p : ℕ) (f : Fault) : Type 0 where
+    pub restored : Restored t.file.now t.words.now u.words.now
+    pub same : Same t u
+    pub space : Roomy u p
+    pub owes : Rowing (Gives t tells) m at i p f
 
-  pub along_starts : Space s t at → Along t 0 at Sound
-  along_starts x = record { restored = restored_all s t x.chained; space = x; owes = row_starts (fold t) d s n at }
+  pub along_starts : Roomy t at → at < 2 ^ 64 → Along t 0 at Sound
+  along_starts x l = record { restored = restored_all t.file.now t.words.now x.chained; same = same_table t; space = x; owes = rowing_starts (Gives t tells) m at l }
 
-  module _ (u : List ℕ) (i p : ℕ) (f : Fault) (a : Along u i p f) where
-    module _ (h : i < n) (u' : List ℕ) where
-      judged : (v : Res Fault) → v ≡ walked (one u) (d s p) → v ≡ walked (one t) (d s p)
-      judged v e = e ∙ ap (λ (o : A → Fault). walked o (d s p)) (keeps t u a.restored)
+  pub along_ends : (u : Table) (i p : ℕ) (f : Fault) → Along u i p f → m ≤ i → (Rows (Gives t tells) m at (got f p) × Restored t.file.now t.words.now u.words.now) × Same t u
+  along_ends u i p f a h = ((rowing_ends (Gives t tells) m at i p f a.owes h, a.restored), a.same)
 
-      pub along_goes : (q : ℕ) (g f' : Fault) → (got g q ≡ walked (one u) (d s p)) × Restored s u u' → f' ≡ lower f g → Along u' (i + 1) q f'
-      along_goes q g f' e k =
-          record {
-            restored = restored_both s t u u' a.restored e.1;
-            space = space_on s u' p q (space_kept s u u' p a.space e.1) (walked_on (one t) d c s p q g (judged (got g q) e.0));
-            owes = rw k (row_goes (fold t) d s n i p f (walked (all t) (many end more d n s at)) q g h (judged (got g q) e.0) a.owes);
-          }
+  module _ (may : MutBor Table → ℕ → Type 0) (j : Judges may tells) (i p : ℕ) (f : Fault) (k : MutBor Table) (a : Along k.now i p f) (r : Result (Fault × ℕ) Refusal) (w : MutBor Table) (y : tells k p r w) where
+    gives : Gives t tells p r
+    gives = record { table = k; space = a.space; kept = a.restored; same = a.same; left = w; met = y }
 
-      pub along_stops : (k : ℕ) → (refuse k ≡ walked (one u) (d s p)) × Restored s u u' → (refuse k ≡ walked (all t) (many end more d n s at)) × Restored s t u'
-      along_stops k e =
-          (row_stops (fold t) d s n i p f (walked (all t) (many end more d n s at)) k h (judged (refuse k) e.0) a.owes, restored_both s t u u' a.restored e.1)
+    left : Restored t.file.now k.now.words.now w.now.words.now
+    left = rw a.same.file at (j.leaves k p r w a.owes.low a.space y).0
 
-    pub along_ends : n ≤ i → (got f p ≡ walked (all t) (many end more d n s at)) × Restored s t u
-    along_ends h = (row_done (fold t) d s n i p f (walked (all t) (many end more d n s at)) h a.owes, a.restored)
+    alike : Same t w.now
+    alike = same_both t k.now w.now a.same (j.leaves k p r w a.owes.low a.space y).1
+
+    pub along_goes : i < m → (g f' : Fault) (q : ℕ) → r ≡ Ok (g, q) → q < 2 ^ 64 → f' ≡ lower f g → Along w.now (i + 1) q f'
+    along_goes h g f' q z l v =
+        record {
+          restored = restored_both t.file.now t.words.now k.now.words.now w.now.words.now a.restored left;
+          same = alike;
+          space = rw alike.file
+              (space_on t.file.now w.now.words.now p q (space_kept t.file.now k.now.words.now w.now.words.now p (rw a.same.file at a.space) left)
+              (j.forward k p g q w a.owes.low a.space (rw z at y)));
+          owes = rowing_goes (Gives t tells) m at i p f a.owes h g q (rw z at gives) l f' v;
+        }
+
+    pub along_stops : i < m → (x : Refusal) → r ≡ Err x → (Rows (Gives t tells) m at (refuse (number_of x)) × Restored t.file.now t.words.now w.now.words.now) × Same t w.now
+    along_stops h x z = (
+      (rowing_stops (Gives t tells) m at i p f a.owes h x (rw z at gives), restored_both t.file.now t.words.now k.now.words.now w.now.words.now a.restored left),
+      alike,
+    )
+
+-- each call judges a piece: `one` is its fault by a file and a table
+module _ {A : Type 0} (one : List ℕ → List ℕ → A → Fault) (d : Decoder A) (tells : Tells)
+    (h : (m : MutBor Table) (p : ℕ) (r : Result (Fault × ℕ) Refusal) (w : MutBor Table) → p < 2 ^ 64 → Roomy m.now p → tells m p r w → Scoped one d p m.now w.now (read_of r)) where
+  pub judges : {size : A → ℕ} → Covers size d → (may : MutBor Table → ℕ → Type 0) → ((m : MutBor Table) (p : ℕ) → p < 2 ^ 64 → Roomy m.now p → may m p) → Judges may tells
+  judges c may k =
+      record {
+        takes = k;
+        leaves = λ m p r w l x y. ((h m p r w l x y).0.1, (h m p r w l x y).1);
+        forward = λ m p f q w l x y. walked_on (one m.now.file.now m.now.words.now) d c m.now.file.now p q f (h m p (Ok (f, q)) w l x y).0.0;
+      }
+
+  pub row_judged : {R : Type 0} {end : R} {more : A → R → R} (t : Table) {all : R → Fault} → Fold end more (one t.file.now t.words.now) all
+      → ((u : List ℕ) → Restored t.file.now t.words.now u → one t.file.now u ≡ one t.file.now t.words.now)
+      → (n at : ℕ) (x : Res Fault) → Rows (Gives t tells) n at x → x ≡ walked all (many end more d n t.file.now at)
+  row_judged t fold keeps n at x w =
+      row_is fold d t.file.now n at (Gives t tells) x w (λ p r l g.
+      (rw g.same.file at (h g.table p r g.left l g.space g.met).0.0) ∙ ap (λ (o : A → Fault). walked o (d t.file.now p)) (keeps g.table.now.words.now g.kept))
 
 -- NAMES IN A ROW
 

@@ -28,7 +28,7 @@ use Rattle.names.specs.Table.{Symbol, entries, names_of}
 use Rattle.names.specs.Change.{Restored}
 use Rattle.names.proofs.Theorems.{names_append}
 use Rattle.declared.specs.Symbols.{together, function_symbols, data_symbols, kvars_symbols, symbols_of}
-use Rattle.declared.specs.Gather.{Ready, Declared, KVarsDeclared}
+use Rattle.declared.specs.Gather.{Declared, KVarsDeclared}
 use Rattle.declared.specs.Arity.{arity_in}
 use Rattle.declared.proofs.Counting.{functions_few}
 use Rattle.declared.proofs.Ranges.{kind_names, ranges}
@@ -76,9 +76,6 @@ module _ (file : List ℕ) (b : Bounds) (s : Sectioned file b) (t0 t1 : List ℕ
         let vs : names_of 2 6 (entries file t1) ≡ everywhere s.task = ap (names_of 2 6) data_are.0 ∙ ranges.everywhere s.task in
         judged_functions.0 ∙ ap (λ (x : List (List ℕ)). functions_scope x (names_of 2 6 (entries file t1)) s.task.functions) cs
         ∙ ap (λ (x : List (List ℕ)). functions_scope (declared_by true s.task.datatypes) x s.task.functions) vs
-
-    pub kvars_ready : Ready file t2 × Inside file b
-    kvars_ready = let i = sectioned_inside file b s in let m = i.most in (record { chained = g.chained; short = omega arith }, i)
 
     functions_words : length t2 ≡ length t0
     functions_words = g.words ∙ d.words

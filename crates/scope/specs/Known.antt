@@ -6,6 +6,7 @@ use Rattle.task.specs.Ast.{Expr, Exprs, Pred, Constraint, Constraints}
 use Rattle.task.specs.Scope.{Globals, expr_scope, exprs_scope, pred_scope, constraint_names, constraints_names}
 use Rattle.names.specs.declared.Kind.TheVariants.{KVar, Constructor, Function, Bound}
 use Rattle.names.specs.Table.{number_of, entries, names_of, Chained}
+use Rattle.names.specs.declared.table.Table.{Table}
 use Rattle.declared.specs.Arity.{arity_in}
 
 -- the names of constructors
@@ -50,3 +51,7 @@ pub record Space (s table : List ℕ) (at : ℕ) : Type 0 where
   pub words : 1026 + length s ≤ length table
   pub few : 3 * length (entries s table) ≤ length s
   pub room : 3 * length (entries s table) ≤ at
+
+-- so it is of a table over its own file
+abbrev pub Roomy : Table → ℕ → Type 0
+Roomy t at = Space t.file.now t.words.now at

@@ -1,3 +1,4 @@
 pub mod Known
 pub mod Walk
 pub mod Judged
+pub mod Row

@@ -1,4 +1,4 @@
-// Writers of expressions. As those of sorts they read any bytes, and ask only that the encoder can be searched.
+// Writers of expressions. As those of sorts they read any bytes, and ask for nothing but an encoder.
 #![tactic(auto)]
 
 ghost use Rattle.std.specs.Prelude.{◌≡◌};
@@ -8,36 +8,35 @@ ghost use Rattle.task.specs.Node.{expr_of};
 ghost use Rattle.smt_text.specs.Editions.{names_of};
 ghost use Rattle.smt_text.specs.Text.{write_thy_func, write_bin_op, write_expr};
 ghost use Rattle.output.specs.Emit.{output, emit, emits, Sends};
-ghost use Rattle.names.specs.Table.{Chained};
-ghost use Rattle.smt_sort.specs.Section.{edition_in, encoder_in};
+ghost use Rattle.smt_sort.specs.Section.{edition_in, encoder_by};
 ghost use Rattle.smt_expr.specs.Parts.{two, exprs_text, unary_text, binary_text, atom_text, nary_text, TellsQualified, HeadSends};
 
 use names::Kind;
 use output::Out;
+use smt_sort::Encoder;
 use smt_word::Sent;
 use task::{BinOp, BinRel, ExprNode, Quantifier, ThyFunc};
 
 // Whether an expression is written with the output sort as an application's head: a declared constructor, SetEmpty or MapDefault.
 #[tactic(auto, using(crate::proofs::Heads::tells_var, crate::proofs::Heads::tells_func, crate::proofs::Heads::tells_other))]
-fn is_qualified(s: &[u8], at: usize, enc: &[u16]) -> bool
-    requires { Chained s.now enc.now }
-    ensures { TellsQualified (encoder_in s.now enc.now) s.now at result }
+fn is_qualified(enc: Encoder, at: usize) -> bool
+    ensures { TellsQualified (encoder_by enc.entry) enc.entry.file.now at result }
 {
-    let Ok((node, _)) = task::read_expr_node(s, at) else {
+    let Ok((node, _)) = task::read_expr_node(enc.file, at) else {
         return false;
     };
     match node {
-        ExprNode::Var(x) => smt_sort::is_declared(s, enc, x, Kind::Constructor),
+        ExprNode::Var(x) => smt_sort::is_declared(enc, x, Kind::Constructor),
         ExprNode::ThyFunc(f) => task_check::needs_sort(f),
         _ => false,
     }
 }
 
 // Sends a theory function.
-fn write_function(func: ThyFunc, p: usize, enc: &[u16], buf: &mut [u8], out: Out) -> Sent
-    ensures { (result.at ≡ p) × (output buf.new result.out.len ≡ emits (output buf.old out.len) (write_thy_func (names_of (edition_in enc.now)) func)) }
+fn write_function(enc: Encoder, func: ThyFunc, p: usize, buf: &mut [u8], out: Out) -> Sent
+    ensures { (result.at ≡ p) × (output buf.new result.out.len ≡ emits (output buf.old out.len) (write_thy_func (names_of (edition_in enc.entry.words.now)) func)) }
 {
-    let edition = smt_sort::edition_of(enc);
+    let edition = smt_sort::edition_of(enc.words);
     let sent = out.write_thy_func(buf, edition, func);
     Sent { at: p, out: sent }
 }
@@ -58,15 +57,14 @@ fn bin_op_word(op: BinOp) -> &'static [u8]
 // Sends the expression at a position.
 #[tactic(auto, using(crate::proofs::Exprs::expr_none, crate::proofs::Exprs::expr_arm, crate::proofs::Exprs::numeral_arm, crate::proofs::Exprs::boolean_arm, crate::proofs::Exprs::real_arm, crate::proofs::Exprs::string_arm, crate::proofs::Exprs::bit_vec_arm, crate::proofs::Exprs::var_arm, crate::proofs::Exprs::wk_var_arm, crate::proofs::Exprs::neg_arm, crate::proofs::Exprs::not_arm, crate::proofs::Exprs::binary_op_arm, crate::proofs::Exprs::atom_arm, crate::proofs::Exprs::imp_arm, crate::proofs::Exprs::iff_arm, crate::proofs::Exprs::and_arm, crate::proofs::Exprs::or_arm))]
 #[cycle(exprs)]
-pub fn write_expr(s: &[u8], at: usize, levels: usize, enc: &[u16], buf: &mut [u8], out: Out) -> Sent
-    requires { Chained s.now enc.now }
-    ensures { Sends (write_expr (encoder_in s.now enc.now)) (dec_expr levels s.now at) (output buf.old out.len) (output buf.new result.out.len) result.at }
+pub fn write_expr(enc: Encoder, at: usize, levels: usize, buf: &mut [u8], out: Out) -> Sent
+    ensures { Sends (write_expr (encoder_by enc.entry)) (dec_expr levels enc.entry.file.now at) (output buf.old out.len) (output buf.new result.out.len) result.at }
 {
     if levels == 0 {
         return Sent { at, out };
     }
     let below = levels - 1;
-    let Ok((node, p)) = task::read_expr_node(s, at) else {
+    let Ok((node, p)) = task::read_expr_node(enc.file, at) else {
         return Sent { at, out };
     };
     match node {
@@ -77,72 +75,44 @@ pub fn write_expr(s: &[u8], at: usize, levels: usize, enc: &[u16], buf: &mut [u8
         ExprNode::BitVec(lo, hi, w) => smt_word::write_bit_vec(lo, hi, w, p, buf, out),
         ExprNode::Var(x) => smt_word::write_var(x, p, buf, out),
         ExprNode::WKVar => Sent { at: p, out },
-        ExprNode::Neg => write_unary(s, b"-", p, below, enc, buf, out),
-        ExprNode::Not => write_unary(s, b"not", p, below, enc, buf, out),
-        ExprNode::BinaryOp(op) => write_binary(s, bin_op_word(op), p, below, enc, buf, out),
-        ExprNode::Atom(rel) => write_atom(s, rel, p, below, enc, buf, out),
-        ExprNode::Imp => write_binary(s, b"=>", p, below, enc, buf, out),
-        ExprNode::Iff => write_binary(s, b"=", p, below, enc, buf, out),
-        ExprNode::And(n) => {
-            write_nary(s, b"and", n, b"true", Sent { at: p, out }, below, enc, buf)
-        }
-        ExprNode::Or(n) => {
-            write_nary(s, b"or", n, b"false", Sent { at: p, out }, below, enc, buf)
-        }
-        ExprNode::IfThenElse => write_ite(s, p, below, enc, buf, out),
-        ExprNode::Let(x) => write_let(s, x, p, below, enc, buf, out),
-        ExprNode::App(has) => write_app(s, has, p, below, enc, buf, out),
-        ExprNode::ThyFunc(f) => write_function(f, p, enc, buf, out),
-        ExprNode::IsCtor(x) => write_is_ctor(s, x, p, below, enc, buf, out),
-        ExprNode::Quantifier(q, n) => write_quantifier(s, q, n, p, below, enc, buf, out),
+        ExprNode::Neg => write_unary(enc, b"-", p, below, buf, out),
+        ExprNode::Not => write_unary(enc, b"not", p, below, buf, out),
+        ExprNode::BinaryOp(op) => write_binary(enc, bin_op_word(op), p, below, buf, out),
+        ExprNode::Atom(rel) => write_atom(enc, rel, p, below, buf, out),
+        ExprNode::Imp => write_binary(enc, b"=>", p, below, buf, out),
+        ExprNode::Iff => write_binary(enc, b"=", p, below, buf, out),
+        ExprNode::And(n) => { write_nary(enc, b"and", n, b"true", Sent { at: p, out }, below, buf) }
+        ExprNode::Or(n) => { write_nary(enc, b"or", n, b"false", Sent { at: p, out }, below, buf) }
+        ExprNode::IfThenElse => write_ite(enc, p, below, buf, out),
+        ExprNode::Let(x) => write_let(enc, x, p, below, buf, out),
+        ExprNode::App(has) => write_app(enc, has, p, below, buf, out),
+        ExprNode::ThyFunc(f) => write_function(enc, f, p, buf, out),
+        ExprNode::IsCtor(x) => write_is_ctor(enc, x, p, below, buf, out),
+        ExprNode::Quantifier(q, n) => write_quantifier(enc, q, n, p, below, buf, out),
     }
 }
 
 // Sends n expressions, a space before each.
-#[tactic(auto, using(smt_sort::proofs::Rows::row_starts, smt_sort::proofs::Rows::row_goes, smt_sort::proofs::Rows::row_ends), unfolding(crate::specs::Parts::exprs_text))]
 #[cycle(exprs)]
-pub fn write_exprs(
-    s: &[u8],
-    at: usize,
-    n: u64,
-    levels: usize,
-    enc: &[u16],
-    buf: &mut [u8],
-    out: Out,
-) -> Sent
-    requires { Chained s.now enc.now }
-    ensures { Sends (exprs_text (encoder_in s.now enc.now)) (many Exprs.none Exprs.more (dec_expr levels) n s.now at) (output buf.old out.len) (output buf.new result.out.len) result.at }
+pub fn write_exprs(enc: Encoder, at: usize, n: u64, levels: usize, buf: &mut [u8], out: Out) -> Sent
+    ensures { Sends (exprs_text (encoder_by enc.entry)) (many Exprs.none Exprs.more (dec_expr levels) n enc.entry.file.now at) (output buf.old out.len) (output buf.new result.out.len) result.at }
 {
-    let mut p = at;
-    let mut sent = out;
-    for _ in 0..n {
-        let spaced = sent.byte(buf, b' ');
-        let one = write_expr(s, p, levels, enc, buf, spaced);
-        p = one.at;
-        sent = one.out;
-    }
-    Sent { at: p, out: sent }
+    let one = |p, b: &mut [u8], o: Out|
+        ensures { Sends (write_expr (encoder_by enc.entry)) (dec_expr levels enc.entry.file.now p) (output b.old o.len) (output b.new result.out.len) result.at }
+    { write_expr(enc, p, levels, b, o) };
+    smt_word::write_row(at, n, buf, out, one)
 }
 
 // An operation of one operand.
 #[tactic(auto, using(crate::proofs::Exprs::unary_sends))]
 #[cycle(exprs)]
-fn write_unary(
-    s: &[u8],
-    op: &[u8],
-    at: usize,
-    levels: usize,
-    enc: &[u16],
-    buf: &mut [u8],
-    out: Out,
-) -> Sent
-    requires { Chained s.now enc.now }
-    ensures { Sends (unary_text (encoder_in s.now enc.now) op.now) (dec_expr levels s.now at) (output buf.old out.len) (output buf.new result.out.len) result.at }
+fn write_unary(enc: Encoder, op: &[u8], at: usize, levels: usize, buf: &mut [u8], out: Out) -> Sent
+    ensures { Sends (unary_text (encoder_by enc.entry) op.now) (dec_expr levels enc.entry.file.now at) (output buf.old out.len) (output buf.new result.out.len) result.at }
 {
     let opened = out.byte(buf, b'(');
     let named = opened.bytes(buf, op);
     let spaced = named.byte(buf, b' ');
-    let operand = write_expr(s, at, levels, enc, buf, spaced);
+    let operand = write_expr(enc, at, levels, buf, spaced);
     let sent = operand.out;
     let closed = sent.byte(buf, b')');
     Sent {
@@ -154,25 +124,16 @@ fn write_unary(
 // An operation of two operands.
 #[tactic(auto, using(crate::proofs::Exprs::binary_sends))]
 #[cycle(exprs)]
-fn write_binary(
-    s: &[u8],
-    op: &[u8],
-    at: usize,
-    levels: usize,
-    enc: &[u16],
-    buf: &mut [u8],
-    out: Out,
-) -> Sent
-    requires { Chained s.now enc.now }
-    ensures { Sends (binary_text (encoder_in s.now enc.now) op.now) (two levels s.now at) (output buf.old out.len) (output buf.new result.out.len) result.at }
+fn write_binary(enc: Encoder, op: &[u8], at: usize, levels: usize, buf: &mut [u8], out: Out) -> Sent
+    ensures { Sends (binary_text (encoder_by enc.entry) op.now) (two levels enc.entry.file.now at) (output buf.old out.len) (output buf.new result.out.len) result.at }
 {
     let opened = out.byte(buf, b'(');
     let named = opened.bytes(buf, op);
     let spaced = named.byte(buf, b' ');
-    let left = write_expr(s, at, levels, enc, buf, spaced);
+    let left = write_expr(enc, at, levels, buf, spaced);
     let first = left.out;
     let parted = first.byte(buf, b' ');
-    let right = write_expr(s, left.at, levels, enc, buf, parted);
+    let right = write_expr(enc, left.at, levels, buf, parted);
     let second = right.out;
     let closed = second.byte(buf, b')');
     Sent {
@@ -183,37 +144,27 @@ fn write_binary(
 
 // A relation by its code.
 #[cycle(exprs)]
-fn write_atom(
-    s: &[u8],
-    rel: BinRel,
-    at: usize,
-    levels: usize,
-    enc: &[u16],
-    buf: &mut [u8],
-    out: Out,
-) -> Sent
-    requires { Chained s.now enc.now }
-    ensures { Sends (atom_text (encoder_in s.now enc.now) rel) (two levels s.now at) (output buf.old out.len) (output buf.new result.out.len) result.at }
+fn write_atom(enc: Encoder, rel: BinRel, at: usize, levels: usize, buf: &mut [u8], out: Out) -> Sent
+    ensures { Sends (atom_text (encoder_by enc.entry) rel) (two levels enc.entry.file.now at) (output buf.old out.len) (output buf.new result.out.len) result.at }
 {
     match rel {
-        BinRel::Eq => write_binary(s, b"=", at, levels, enc, buf, out),
-        BinRel::Ne => write_ne(s, at, levels, enc, buf, out),
-        BinRel::Gt => write_binary(s, b">", at, levels, enc, buf, out),
-        BinRel::Ge => write_binary(s, b">=", at, levels, enc, buf, out),
-        BinRel::Lt => write_binary(s, b"<", at, levels, enc, buf, out),
-        BinRel::Le => write_binary(s, b"<=", at, levels, enc, buf, out),
+        BinRel::Eq => write_binary(enc, b"=", at, levels, buf, out),
+        BinRel::Ne => write_ne(enc, at, levels, buf, out),
+        BinRel::Gt => write_binary(enc, b">", at, levels, buf, out),
+        BinRel::Ge => write_binary(enc, b">=", at, levels, buf, out),
+        BinRel::Lt => write_binary(enc, b"<", at, levels, buf, out),
+        BinRel::Le => write_binary(enc, b"<=", at, levels, buf, out),
     }
 }
 
 // That two operands are not equal.
 #[tactic(auto, using(crate::proofs::Exprs::ne_sends))]
 #[cycle(exprs)]
-fn write_ne(s: &[u8], at: usize, levels: usize, enc: &[u16], buf: &mut [u8], out: Out) -> Sent
-    requires { Chained s.now enc.now }
-    ensures { Sends (atom_text (encoder_in s.now enc.now) BinRel.Ne) (two levels s.now at) (output buf.old out.len) (output buf.new result.out.len) result.at }
+fn write_ne(enc: Encoder, at: usize, levels: usize, buf: &mut [u8], out: Out) -> Sent
+    ensures { Sends (atom_text (encoder_by enc.entry) BinRel.Ne) (two levels enc.entry.file.now at) (output buf.old out.len) (output buf.new result.out.len) result.at }
 {
     let opened = out.bytes(buf, b"(not ");
-    let equal = write_binary(s, b"=", at, levels, enc, buf, opened);
+    let equal = write_binary(enc, b"=", at, levels, buf, opened);
     let sent = equal.out;
     let closed = sent.byte(buf, b')');
     Sent {
@@ -237,17 +188,15 @@ fn close_list(last: Sent, buf: &mut [u8]) -> Sent
 // A connective of n members, the first at a position; a word of its own for none.
 #[cycle(exprs)]
 fn write_nary(
-    s: &[u8],
+    enc: Encoder,
     op: &[u8],
     n: u64,
     empty: &[u8],
     from: Sent,
     levels: usize,
-    enc: &[u16],
     buf: &mut [u8],
 ) -> Sent
-    requires { Chained s.now enc.now }
-    ensures { Sends (nary_text (encoder_in s.now enc.now) op.now empty.now) (many Exprs.none Exprs.more (dec_expr levels) n s.now from.at) (output buf.old from.out.len) (output buf.new result.out.len) result.at }
+    ensures { Sends (nary_text (encoder_by enc.entry) op.now empty.now) (many Exprs.none Exprs.more (dec_expr levels) n enc.entry.file.now from.at) (output buf.old from.out.len) (output buf.new result.out.len) result.at }
 {
     let at = from.at;
     let out = from.out;
@@ -256,25 +205,24 @@ fn write_nary(
     }
     let opened = out.byte(buf, b'(');
     let named = opened.bytes(buf, op);
-    let members = write_exprs(s, at, n, levels, enc, buf, named);
+    let members = write_exprs(enc, at, n, levels, buf, named);
     close_list(members, buf)
 }
 
 // A choice of two.
 #[tactic(auto, using(crate::proofs::Exprs::ite_sends))]
 #[cycle(exprs)]
-fn write_ite(s: &[u8], at: usize, levels: usize, enc: &[u16], buf: &mut [u8], out: Out) -> Sent
-    requires { Chained s.now enc.now }
-    ensures { Sends (write_expr (encoder_in s.now enc.now)) (expr_of s.now levels (dec_expr levels) (Ok (ExprNode.IfThenElse, at))) (output buf.old out.len) (output buf.new result.out.len) result.at }
+fn write_ite(enc: Encoder, at: usize, levels: usize, buf: &mut [u8], out: Out) -> Sent
+    ensures { Sends (write_expr (encoder_by enc.entry)) (expr_of enc.entry.file.now levels (dec_expr levels) (Ok (ExprNode.IfThenElse, at))) (output buf.old out.len) (output buf.new result.out.len) result.at }
 {
     let opened = out.bytes(buf, b"(ite ");
-    let test = write_expr(s, at, levels, enc, buf, opened);
+    let test = write_expr(enc, at, levels, buf, opened);
     let tested = test.out;
     let parted = tested.byte(buf, b' ');
-    let yes = write_expr(s, test.at, levels, enc, buf, parted);
+    let yes = write_expr(enc, test.at, levels, buf, parted);
     let chosen = yes.out;
     let again = chosen.byte(buf, b' ');
-    let no = write_expr(s, yes.at, levels, enc, buf, again);
+    let no = write_expr(enc, yes.at, levels, buf, again);
     let sent = no.out;
     let closed = sent.byte(buf, b')');
     Sent {
@@ -286,25 +234,16 @@ fn write_ite(s: &[u8], at: usize, levels: usize, enc: &[u16], buf: &mut [u8], ou
 // A name for an expression in another.
 #[tactic(auto, using(crate::proofs::Exprs::let_sends))]
 #[cycle(exprs)]
-fn write_let(
-    s: &[u8],
-    x: &[u8],
-    at: usize,
-    levels: usize,
-    enc: &[u16],
-    buf: &mut [u8],
-    out: Out,
-) -> Sent
-    requires { Chained s.now enc.now }
-    ensures { Sends (write_expr (encoder_in s.now enc.now)) (expr_of s.now levels (dec_expr levels) (Ok (ExprNode.Let x.entry, at))) (output buf.old out.len) (output buf.new result.out.len) result.at }
+fn write_let(enc: Encoder, x: &[u8], at: usize, levels: usize, buf: &mut [u8], out: Out) -> Sent
+    ensures { Sends (write_expr (encoder_by enc.entry)) (expr_of enc.entry.file.now levels (dec_expr levels) (Ok (ExprNode.Let x.entry, at))) (output buf.old out.len) (output buf.new result.out.len) result.at }
 {
     let opened = out.bytes(buf, b"(let ((");
     let named = opened.bytes(buf, x);
     let spaced = named.byte(buf, b' ');
-    let value = write_expr(s, at, levels, enc, buf, spaced);
+    let value = write_expr(enc, at, levels, buf, spaced);
     let bound = value.out;
     let inner = bound.bytes(buf, b")) ");
-    let body = write_expr(s, value.at, levels, enc, buf, inner);
+    let body = write_expr(enc, value.at, levels, buf, inner);
     let sent = body.out;
     let closed = sent.byte(buf, b')');
     Sent {
@@ -316,22 +255,13 @@ fn write_let(
 // A test for a constructor.
 #[tactic(auto, using(crate::proofs::Exprs::is_ctor_sends))]
 #[cycle(exprs)]
-fn write_is_ctor(
-    s: &[u8],
-    x: &[u8],
-    at: usize,
-    levels: usize,
-    enc: &[u16],
-    buf: &mut [u8],
-    out: Out,
-) -> Sent
-    requires { Chained s.now enc.now }
-    ensures { Sends (write_expr (encoder_in s.now enc.now)) (expr_of s.now levels (dec_expr levels) (Ok (ExprNode.IsCtor x.entry, at))) (output buf.old out.len) (output buf.new result.out.len) result.at }
+fn write_is_ctor(enc: Encoder, x: &[u8], at: usize, levels: usize, buf: &mut [u8], out: Out) -> Sent
+    ensures { Sends (write_expr (encoder_by enc.entry)) (expr_of enc.entry.file.now levels (dec_expr levels) (Ok (ExprNode.IsCtor x.entry, at))) (output buf.old out.len) (output buf.new result.out.len) result.at }
 {
     let opened = out.bytes(buf, b"((_ is ");
     let named = opened.bytes(buf, x);
     let spaced = named.bytes(buf, b") ");
-    let operand = write_expr(s, at, levels, enc, buf, spaced);
+    let operand = write_expr(enc, at, levels, buf, spaced);
     let sent = operand.out;
     let closed = sent.byte(buf, b')');
     Sent {
@@ -344,24 +274,22 @@ fn write_is_ctor(
 #[tactic(auto, using(crate::proofs::Exprs::quantifier_sends))]
 #[cycle(exprs)]
 fn write_quantifier(
-    s: &[u8],
+    enc: Encoder,
     q: Quantifier,
     n: u64,
     at: usize,
     levels: usize,
-    enc: &[u16],
     buf: &mut [u8],
     out: Out,
 ) -> Sent
-    requires { Chained s.now enc.now }
-    ensures { Sends (write_expr (encoder_in s.now enc.now)) (expr_of s.now levels (dec_expr levels) (Ok (ExprNode.Quantifier q n, at))) (output buf.old out.len) (output buf.new result.out.len) result.at }
+    ensures { Sends (write_expr (encoder_by enc.entry)) (expr_of enc.entry.file.now levels (dec_expr levels) (Ok (ExprNode.Quantifier q n, at))) (output buf.old out.len) (output buf.new result.out.len) result.at }
 {
     let opened = smt_word::open_quantifier(q, buf, out);
     let spaced = opened.byte(buf, b' ');
-    let names = smt_sort::write_binder_list(s, at, n, levels, enc, buf, spaced);
+    let names = smt_sort::write_binder_list(enc, at, n, levels, buf, spaced);
     let listed = names.out;
     let parted = listed.byte(buf, b' ');
-    let body = write_expr(s, names.at, levels, enc, buf, parted);
+    let body = write_expr(enc, names.at, levels, buf, parted);
     let sent = body.out;
     let closed = sent.byte(buf, b')');
     Sent {
@@ -374,24 +302,22 @@ fn write_quantifier(
 #[tactic(auto, using(crate::proofs::Exprs::as_sends, crate::proofs::Exprs::unqualified_sends, crate::proofs::Exprs::unsorted_sends))]
 #[cycle(exprs)]
 fn write_application_head(
-    s: &[u8],
+    enc: Encoder,
     has: bool,
     from: usize,
     at: usize,
     levels: usize,
-    enc: &[u16],
     buf: &mut [u8],
     out: Out,
 ) -> Sent
-    requires { Chained s.now enc.now }
-    ensures { HeadSends (encoder_in s.now enc.now) (given levels has s.now from) (dec_expr levels s.now at) (output buf.old out.len) (output buf.new result.out.len) result.at }
+    ensures { HeadSends (encoder_by enc.entry) (given levels has enc.entry.file.now from) (dec_expr levels enc.entry.file.now at) (output buf.old out.len) (output buf.new result.out.len) result.at }
 {
-    if has && is_qualified(s, at, enc) {
+    if has && is_qualified(enc, at) {
         let opened = out.bytes(buf, b"(as ");
-        let head = write_expr(s, at, levels, enc, buf, opened);
+        let head = write_expr(enc, at, levels, buf, opened);
         let named = head.out;
         let spaced = named.byte(buf, b' ');
-        let sort = smt_sort::write_sort(s, from, levels, enc, buf, spaced);
+        let sort = smt_sort::write_sort(enc, from, levels, buf, spaced);
         let sent = sort.out;
         let closed = sent.byte(buf, b')');
         return Sent {
@@ -399,41 +325,32 @@ fn write_application_head(
             out: closed,
         };
     }
-    write_expr(s, at, levels, enc, buf, out)
+    write_expr(enc, at, levels, buf, out)
 }
 
 // An application: the number of its arguments stands behind its head.
 #[tactic(auto, using(crate::proofs::Exprs::no_sort, crate::proofs::Exprs::no_head, crate::proofs::Exprs::no_count, crate::proofs::Exprs::bare_sends, crate::proofs::Exprs::app_sends))]
 #[cycle(exprs)]
-fn write_app(
-    s: &[u8],
-    has: bool,
-    at: usize,
-    levels: usize,
-    enc: &[u16],
-    buf: &mut [u8],
-    out: Out,
-) -> Sent
-    requires { Chained s.now enc.now }
-    ensures { Sends (write_expr (encoder_in s.now enc.now)) (expr_of s.now levels (dec_expr levels) (Ok (ExprNode.App has, at))) (output buf.old out.len) (output buf.new result.out.len) result.at }
+fn write_app(enc: Encoder, has: bool, at: usize, levels: usize, buf: &mut [u8], out: Out) -> Sent
+    ensures { Sends (write_expr (encoder_by enc.entry)) (expr_of enc.entry.file.now levels (dec_expr levels) (Ok (ExprNode.App has, at))) (output buf.old out.len) (output buf.new result.out.len) result.at }
 {
-    let Ok((_, q)) = task_check::check_given(s, has, at, levels) else {
+    let Ok((_, q)) = task_check::check_given(enc.file, has, at, levels) else {
         return Sent { at, out };
     };
-    let Ok((_, p)) = task_check::check_expr(s, q, levels, has) else {
+    let Ok((_, p)) = task_check::check_expr(enc.file, q, levels, has) else {
         return Sent { at, out };
     };
-    let Ok((n, t)) = task::number_at(s, p, 2) else {
+    let Ok((n, t)) = task::number_at(enc.file, p, 2) else {
         return Sent { at, out };
     };
     if n == 0 {
-        let bare = write_application_head(s, has, at, q, levels, enc, buf, out);
+        let bare = write_application_head(enc, has, at, q, levels, buf, out);
         let sent = bare.out;
         return Sent { at: t, out: sent };
     }
     let opened = out.byte(buf, b'(');
-    let head = write_application_head(s, has, at, q, levels, enc, buf, opened);
+    let head = write_application_head(enc, has, at, q, levels, buf, opened);
     let named = head.out;
-    let args = write_exprs(s, t, n, levels, enc, buf, named);
+    let args = write_exprs(enc, t, n, levels, buf, named);
     close_list(args, buf)
 }

@@ -14,6 +14,7 @@ ghost use Rattle.smt_horn.specs.Calls.{surveyed, written};
 ghost use Rattle.smt_horn.specs.Putting.{range_of, sized as sized_of, answer_to, PutsTask, Puts, Answers};
 
 use flatten::{Progress, Range};
+use smt_sort::Encoder;
 use smt_text::Edition;
 use task::Refusal;
 use trailer::Bounds;
@@ -86,24 +87,17 @@ impl Asked {
 }
 
 // Measures the parts of a task whose sections and names are known, and writes them and their lengths unless the answer is a refusal.
-fn put_task(
-    file: &[u8],
-    b: Bounds,
-    enc: &[u16],
-    asked: Asked,
-    buf: &mut [u8],
-    lengths: &mut [u32],
-) -> Progress
-    requires { Accepted file.now b × Names file.now enc.now }
-    ensures { PutsTask file.now (edition_in enc.now) asked buf.old buf.new lengths.old lengths.new result }
+fn put_task(enc: Encoder, b: Bounds, asked: Asked, buf: &mut [u8], lengths: &mut [u32]) -> Progress
+    requires { Accepted enc.file.now b × Names enc.file.now enc.words.now }
+    ensures { PutsTask enc.entry.file.now (edition_in enc.entry.words.now) asked buf.old buf.new lengths.old lengths.new result }
 {
     let range = asked.range();
     let mut none = [0u32; 0];
-    let sizes = parts::measure(file, b, enc, range, &mut none);
+    let sizes = parts::measure(enc, b, range, &mut none);
     let Ok(_) = asked.answer(sizes, buf.len(), lengths.len()) else {
         return sizes;
     };
-    parts::write_smt_horn(file, b, enc, range, buf, lengths);
+    parts::write_smt_horn(enc, b, range, buf, lengths);
     sizes
 }
 
@@ -122,7 +116,8 @@ fn put_with(
     let found = inspect::inspect(file, table)?;
     let b = found.bounds;
     smt_sort::set_edition(table, edition);
-    Ok((found.heads, put_task(file, b, table, asked, buf, lengths)))
+    let enc = Encoder { file, words: table };
+    Ok((found.heads, put_task(enc, b, asked, buf, lengths)))
 }
 
 // The same with a table of N words.

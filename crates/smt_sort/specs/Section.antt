@@ -10,6 +10,7 @@ use Rattle.smt_text.specs.declared.Edition.TheVariants.{Z3, Cvc5}
 use Rattle.smt_text.specs.Editions.{names_of, edition_of}
 use Rattle.smt_text.specs.Encoder.{Encoder, encoder}
 use Rattle.smt_text.specs.Text.{spaced, sexp_list, applied, write_sort_ctor, write_sorts, write_binders}
+use Rattle.smt_sort.specs.declared.encoder.Encoder as lent
 use Rattle.smt_sort.specs.declared.SortCtor as code
 use Rattle.smt_sort.specs.declared.SortCtor.TheVariants as ctor
 
@@ -29,6 +30,10 @@ number_of Cvc5 = 1
 -- the encoder that a table is
 unfoldable pub encoder_in : List ℕ → List ℕ → Encoder
 encoder_in s enc = encoder (names_of (edition_in enc)) (record { constructors = declared_in s enc Constructor; datatypes = declared_in s enc Datatype })
+
+-- the encoder that the writers are given
+abbrev pub encoder_by : lent.Encoder → Encoder
+encoder_by enc = encoder_in enc.file.now enc.words.now
 
 -- what an applied sort is made by
 abbrev pub ctor_of : code.SortCtor → SortCtor

@@ -1,5 +1,5 @@
 // Writers of sorts. A writer reads any bytes at any position and sends what it writes to the output: where a piece is decoded, it sends the
-// piece's text and ends behind the piece. It asks that the encoder, a symbol table of the declared names, can be searched.
+// piece's text and ends behind the piece. It asks for nothing but an encoder, which has the bytes with it.
 #![tactic(auto)]
 
 ghost use Rattle.std.specs.Prelude.{◌≡◌, [], ◌∷◌, ◌<◌, length, set};
@@ -7,11 +7,13 @@ ghost use Rattle.smtlib.specs.Lexicon.{is_one};
 ghost use Rattle.task.specs.Ast.{Sorts};
 ghost use Rattle.task.specs.Decode.{many, binder, dec_sort};
 ghost use Rattle.task.specs.Node.{sort_of};
-ghost use Rattle.names.specs.Table.{Chained};
 ghost use Rattle.smt_text.specs.Text.{write_sort_ctor, write_sort, write_binder};
 ghost use Rattle.output.specs.Emit.{output, emits, Sends};
-ghost use Rattle.smt_sort.specs.Section.{declared_in, edition_in, number_of, encoder_in, ctor_of, sorts_text, sort_list, applied_text, binders_text, binder_list};
+ghost use Rattle.smt_sort.specs.Section.{declared_in, edition_in, number_of, encoder_by, ctor_of, sorts_text, sort_list, applied_text, binders_text, binder_list};
 
+mod encoder;
+
+pub use encoder::Encoder;
 use names::Kind;
 use output::Out;
 use smt_text::Edition;
@@ -47,11 +49,10 @@ pub fn set_edition(enc: &mut [u16], edition: Edition)
 
 // Whether a name is that of a declared piece of the kind.
 #[tactic(auto, using(crate::proofs::Sorts::declared_is))]
-pub fn is_declared(s: &[u8], enc: &[u16], x: &[u8], kind: Kind) -> bool
-    requires { Chained s.now enc.now }
-    ensures { result ≡ is_one x.now (declared_in s.now enc.now kind) }
+pub fn is_declared(enc: Encoder, x: &[u8], kind: Kind) -> bool
+    ensures { result ≡ is_one x.now (declared_in enc.entry.file.now enc.entry.words.now kind) }
 {
-    names::find(s, enc, x, kind, kind).is_some()
+    names::find(enc.file, enc.words, x, kind, kind).is_some()
 }
 
 // Sends what an applied sort is made by.
@@ -69,15 +70,14 @@ fn write_sort_ctor(ctor: SortCtor, buf: &mut [u8], out: Out) -> Out
 // Sends the sort at a position.
 #[tactic(auto, using(crate::proofs::Sorts::sort_none, crate::proofs::Sorts::sort_refused, crate::proofs::Sorts::sort_arm, crate::proofs::Sorts::int_arm, crate::proofs::Sorts::bool_arm, crate::proofs::Sorts::real_arm, crate::proofs::Sorts::str_arm, crate::proofs::Sorts::bv_size_arm, crate::proofs::Sorts::var_arm, crate::proofs::Sorts::abs_arm, crate::proofs::Sorts::set_arm, crate::proofs::Sorts::map_arm))]
 #[cycle(sorts)]
-pub fn write_sort(s: &[u8], at: usize, levels: usize, enc: &[u16], buf: &mut [u8], out: Out) -> Sent
-    requires { Chained s.now enc.now }
-    ensures { Sends (write_sort (encoder_in s.now enc.now)) (dec_sort levels s.now at) (output buf.old out.len) (output buf.new result.out.len) result.at }
+pub fn write_sort(enc: Encoder, at: usize, levels: usize, buf: &mut [u8], out: Out) -> Sent
+    ensures { Sends (write_sort (encoder_by enc.entry)) (dec_sort levels enc.entry.file.now at) (output buf.old out.len) (output buf.new result.out.len) result.at }
 {
     if levels == 0 {
         return Sent { at, out };
     }
     let below = levels - 1;
-    let Ok((node, p)) = task::read_sort_node(s, at) else {
+    let Ok((node, p)) = task::read_sort_node(enc.file, at) else {
         return Sent { at, out };
     };
     match node {
@@ -85,26 +85,25 @@ pub fn write_sort(s: &[u8], at: usize, levels: usize, enc: &[u16], buf: &mut [u8
         SortNode::Bool => smt_word::write_word(b"Bool", p, buf, out),
         SortNode::Real => smt_word::write_word(b"Real", p, buf, out),
         SortNode::Str => smt_word::write_word(b"String", p, buf, out),
-        SortNode::BitVec => write_bit_vec(s, p, below, enc, buf, out),
+        SortNode::BitVec => write_bit_vec(enc, p, below, buf, out),
         SortNode::BvSize(n) => smt_word::write_number(n, p, buf, out),
         SortNode::Var(i) => smt_word::write_parameter(i, p, buf, out),
-        SortNode::Func => write_array(s, p, below, enc, buf, out),
-        SortNode::Abs(_) => write_sort(s, p, below, enc, buf, out),
-        SortNode::Set(n) => write_applied(s, SortCtor::Set, n, p, below, enc, buf, out),
-        SortNode::Map(n) => write_applied(s, SortCtor::Map, n, p, below, enc, buf, out),
-        SortNode::Data(x, n) => write_data(s, x, n, p, below, enc, buf, out),
+        SortNode::Func => write_array(enc, p, below, buf, out),
+        SortNode::Abs(_) => write_sort(enc, p, below, buf, out),
+        SortNode::Set(n) => write_applied(enc, SortCtor::Set, n, p, below, buf, out),
+        SortNode::Map(n) => write_applied(enc, SortCtor::Map, n, p, below, buf, out),
+        SortNode::Data(x, n) => write_data(enc, x, n, p, below, buf, out),
     }
 }
 
 // A BitVec with its width.
 #[tactic(auto, using(crate::proofs::Sorts::bit_vec_sends))]
 #[cycle(sorts)]
-fn write_bit_vec(s: &[u8], at: usize, levels: usize, enc: &[u16], buf: &mut [u8], out: Out) -> Sent
-    requires { Chained s.now enc.now }
-    ensures { Sends (write_sort (encoder_in s.now enc.now)) (sort_of s.now (dec_sort levels) (Ok (SortNode.BitVec, at))) (output buf.old out.len) (output buf.new result.out.len) result.at }
+fn write_bit_vec(enc: Encoder, at: usize, levels: usize, buf: &mut [u8], out: Out) -> Sent
+    ensures { Sends (write_sort (encoder_by enc.entry)) (sort_of enc.entry.file.now (dec_sort levels) (Ok (SortNode.BitVec, at))) (output buf.old out.len) (output buf.new result.out.len) result.at }
 {
     let opened = out.bytes(buf, b"(_ BitVec ");
-    let width = write_sort(s, at, levels, enc, buf, opened);
+    let width = write_sort(enc, at, levels, buf, opened);
     let sent = width.out;
     let closed = sent.byte(buf, b')');
     Sent {
@@ -116,15 +115,14 @@ fn write_bit_vec(s: &[u8], at: usize, levels: usize, enc: &[u16], buf: &mut [u8]
 // A Func as an array.
 #[tactic(auto, using(crate::proofs::Sorts::func_sends))]
 #[cycle(sorts)]
-fn write_array(s: &[u8], at: usize, levels: usize, enc: &[u16], buf: &mut [u8], out: Out) -> Sent
-    requires { Chained s.now enc.now }
-    ensures { Sends (write_sort (encoder_in s.now enc.now)) (sort_of s.now (dec_sort levels) (Ok (SortNode.Func, at))) (output buf.old out.len) (output buf.new result.out.len) result.at }
+fn write_array(enc: Encoder, at: usize, levels: usize, buf: &mut [u8], out: Out) -> Sent
+    ensures { Sends (write_sort (encoder_by enc.entry)) (sort_of enc.entry.file.now (dec_sort levels) (Ok (SortNode.Func, at))) (output buf.old out.len) (output buf.new result.out.len) result.at }
 {
     let opened = out.bytes(buf, b"(Array ");
-    let from = write_sort(s, at, levels, enc, buf, opened);
+    let from = write_sort(enc, at, levels, buf, opened);
     let first = from.out;
     let spaced = first.byte(buf, b' ');
-    let to = write_sort(s, from.at, levels, enc, buf, spaced);
+    let to = write_sort(enc, from.at, levels, buf, spaced);
     let second = to.out;
     let closed = second.byte(buf, b')');
     Sent {
@@ -136,17 +134,15 @@ fn write_array(s: &[u8], at: usize, levels: usize, enc: &[u16], buf: &mut [u8], 
 // A sort that is made by another, or of n others.
 #[cycle(sorts)]
 fn write_applied(
-    s: &[u8],
+    enc: Encoder,
     ctor: SortCtor,
     n: u64,
     at: usize,
     levels: usize,
-    enc: &[u16],
     buf: &mut [u8],
     out: Out,
 ) -> Sent
-    requires { Chained s.now enc.now }
-    ensures { Sends (applied_text (encoder_in s.now enc.now) (ctor_of ctor.entry)) (many Sorts.none Sorts.more (dec_sort levels) n s.now at) (output buf.old out.len) (output buf.new result.out.len) result.at }
+    ensures { Sends (applied_text (encoder_by enc.entry) (ctor_of ctor.entry)) (many Sorts.none Sorts.more (dec_sort levels) n enc.entry.file.now at) (output buf.old out.len) (output buf.new result.out.len) result.at }
 {
     if n == 0 {
         let sent = write_sort_ctor(ctor, buf, out);
@@ -154,7 +150,7 @@ fn write_applied(
     }
     let opened = out.byte(buf, b'(');
     let made = write_sort_ctor(ctor, buf, opened);
-    let sorts = write_sorts(s, at, n, levels, enc, buf, made);
+    let sorts = write_sorts(enc, at, n, levels, buf, made);
     let sent = sorts.out;
     let closed = sent.byte(buf, b')');
     Sent {
@@ -167,72 +163,53 @@ fn write_applied(
 #[tactic(auto, using(crate::proofs::Sorts::data_sends, crate::proofs::Sorts::opaque_sends, crate::proofs::Sorts::skipped_sends))]
 #[cycle(sorts)]
 fn write_data(
-    s: &[u8],
+    enc: Encoder,
     x: &[u8],
     n: u64,
     at: usize,
     levels: usize,
-    enc: &[u16],
     buf: &mut [u8],
     out: Out,
 ) -> Sent
-    requires { Chained s.now enc.now }
-    ensures { Sends (write_sort (encoder_in s.now enc.now)) (sort_of s.now (dec_sort levels) (Ok (SortNode.Data x.entry n, at))) (output buf.old out.len) (output buf.new result.out.len) result.at }
+    ensures { Sends (write_sort (encoder_by enc.entry)) (sort_of enc.entry.file.now (dec_sort levels) (Ok (SortNode.Data x.entry n, at))) (output buf.old out.len) (output buf.new result.out.len) result.at }
 {
-    if is_declared(s, enc, x, Kind::Datatype) {
-        return write_applied(s, SortCtor::Data(x), n, at, levels, enc, buf, out);
+    if is_declared(enc, x, Kind::Datatype) {
+        return write_applied(enc, SortCtor::Data(x), n, at, levels, buf, out);
     }
-    let Ok((_, p)) = task_check::check_sorts(s, at, n, levels) else {
+    let Ok((_, p)) = task_check::check_sorts(enc.file, at, n, levels) else {
         return Sent { at, out };
     };
     smt_word::write_word(b"Int", p, buf, out)
 }
 
 // Sends n sorts, a space before each.
-#[tactic(auto, using(crate::proofs::Rows::row_starts, crate::proofs::Rows::row_goes, crate::proofs::Rows::row_ends), unfolding(crate::specs::Section::sorts_text))]
 #[cycle(sorts)]
-fn write_sorts(
-    s: &[u8],
-    at: usize,
-    n: u64,
-    levels: usize,
-    enc: &[u16],
-    buf: &mut [u8],
-    out: Out,
-) -> Sent
-    requires { Chained s.now enc.now }
-    ensures { Sends (sorts_text (encoder_in s.now enc.now)) (many Sorts.none Sorts.more (dec_sort levels) n s.now at) (output buf.old out.len) (output buf.new result.out.len) result.at }
+fn write_sorts(enc: Encoder, at: usize, n: u64, levels: usize, buf: &mut [u8], out: Out) -> Sent
+    ensures { Sends (sorts_text (encoder_by enc.entry)) (many Sorts.none Sorts.more (dec_sort levels) n enc.entry.file.now at) (output buf.old out.len) (output buf.new result.out.len) result.at }
 {
-    let mut p = at;
-    let mut sent = out;
-    for _ in 0..n {
-        let spaced = sent.byte(buf, b' ');
-        let one = write_sort(s, p, levels, enc, buf, spaced);
-        p = one.at;
-        sent = one.out;
-    }
-    Sent { at: p, out: sent }
+    let one = |p, b: &mut [u8], o: Out|
+        ensures { Sends (write_sort (encoder_by enc.entry)) (dec_sort levels enc.entry.file.now p) (output b.old o.len) (output b.new result.out.len) result.at }
+    { write_sort(enc, p, levels, b, o) };
+    smt_word::write_row(at, n, buf, out, one)
 }
 
 // Sends n sorts in parentheses.
 pub fn write_sort_list(
-    s: &[u8],
+    enc: Encoder,
     at: usize,
     n: u64,
     levels: usize,
-    enc: &[u16],
     buf: &mut [u8],
     out: Out,
 ) -> Sent
-    requires { Chained s.now enc.now }
-    ensures { Sends (sort_list (encoder_in s.now enc.now)) (many Sorts.none Sorts.more (dec_sort levels) n s.now at) (output buf.old out.len) (output buf.new result.out.len) result.at }
+    ensures { Sends (sort_list (encoder_by enc.entry)) (many Sorts.none Sorts.more (dec_sort levels) n enc.entry.file.now at) (output buf.old out.len) (output buf.new result.out.len) result.at }
 {
     if n == 0 {
         return smt_word::write_word(b"()", at, buf, out);
     }
     let opened = out.byte(buf, b'(');
-    let first = write_sort(s, at, levels, enc, buf, opened);
-    let rest = write_sorts(s, first.at, n - 1, levels, enc, buf, first.out);
+    let first = write_sort(enc, at, levels, buf, opened);
+    let rest = write_sorts(enc, first.at, n - 1, levels, buf, first.out);
     let sent = rest.out;
     let closed = sent.byte(buf, b')');
     Sent {
@@ -243,24 +220,16 @@ pub fn write_sort_list(
 
 // Sends a name with its sort.
 #[tactic(auto, using(crate::proofs::Sorts::no_name, crate::proofs::Sorts::binder_sends))]
-pub fn write_binder(
-    s: &[u8],
-    at: usize,
-    levels: usize,
-    enc: &[u16],
-    buf: &mut [u8],
-    out: Out,
-) -> Sent
-    requires { Chained s.now enc.now }
-    ensures { Sends (write_binder (encoder_in s.now enc.now)) (binder levels s.now at) (output buf.old out.len) (output buf.new result.out.len) result.at }
+pub fn write_binder(enc: Encoder, at: usize, levels: usize, buf: &mut [u8], out: Out) -> Sent
+    ensures { Sends (write_binder (encoder_by enc.entry)) (binder levels enc.entry.file.now at) (output buf.old out.len) (output buf.new result.out.len) result.at }
 {
-    let Ok((x, p)) = task::read_name(s, at) else {
+    let Ok((x, p)) = task::read_name(enc.file, at) else {
         return Sent { at, out };
     };
     let opened = out.byte(buf, b'(');
     let named = opened.bytes(buf, x);
     let spaced = named.byte(buf, b' ');
-    let sort = write_sort(s, p, levels, enc, buf, spaced);
+    let sort = write_sort(enc, p, levels, buf, spaced);
     let sent = sort.out;
     let closed = sent.byte(buf, b')');
     Sent {
@@ -270,49 +239,42 @@ pub fn write_binder(
 }
 
 // Sends n names with their sorts, a space before each.
-#[tactic(auto, using(crate::proofs::Rows::row_starts, crate::proofs::Rows::row_goes, crate::proofs::Rows::row_ends), unfolding(crate::specs::Section::binders_text))]
 pub fn write_binders(
-    s: &[u8],
+    enc: Encoder,
     at: usize,
     n: u64,
     levels: usize,
-    enc: &[u16],
     buf: &mut [u8],
     out: Out,
 ) -> Sent
-    requires { Chained s.now enc.now }
-    ensures { Sends (binders_text (encoder_in s.now enc.now)) (many [] ◌∷◌ (binder levels) n s.now at) (output buf.old out.len) (output buf.new result.out.len) result.at }
+    ensures { Sends (binders_text (encoder_by enc.entry)) (many [] ◌∷◌ (binder levels) n enc.entry.file.now at) (output buf.old out.len) (output buf.new result.out.len) result.at }
 {
-    let mut p = at;
-    let mut sent = out;
-    for _ in 0..n {
-        let spaced = sent.byte(buf, b' ');
-        let one = write_binder(s, p, levels, enc, buf, spaced);
-        p = one.at;
-        sent = one.out;
-    }
-    Sent { at: p, out: sent }
+    smt_word::write_row(
+        at,
+        n,
+        buf,
+        out,
+        |p, b, o| write_binder(enc, p, levels, b, o),
+    )
 }
 
 // Sends n names with their sorts in parentheses.
 pub fn write_binder_list(
-    s: &[u8],
+    enc: Encoder,
     at: usize,
     n: u64,
     levels: usize,
-    enc: &[u16],
     buf: &mut [u8],
     out: Out,
 ) -> Sent
-    requires { Chained s.now enc.now }
-    ensures { Sends (binder_list (encoder_in s.now enc.now)) (many [] ◌∷◌ (binder levels) n s.now at) (output buf.old out.len) (output buf.new result.out.len) result.at }
+    ensures { Sends (binder_list (encoder_by enc.entry)) (many [] ◌∷◌ (binder levels) n enc.entry.file.now at) (output buf.old out.len) (output buf.new result.out.len) result.at }
 {
     if n == 0 {
         return smt_word::write_word(b"()", at, buf, out);
     }
     let opened = out.byte(buf, b'(');
-    let first = write_binder(s, at, levels, enc, buf, opened);
-    let rest = write_binders(s, first.at, n - 1, levels, enc, buf, first.out);
+    let first = write_binder(enc, at, levels, buf, opened);
+    let rest = write_binders(enc, first.at, n - 1, levels, buf, first.out);
     let sent = rest.out;
     let closed = sent.byte(buf, b')');
     Sent {

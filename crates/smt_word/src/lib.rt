@@ -6,6 +6,7 @@ ghost use Rattle.smtlib.specs.Compose.{decimal};
 ghost use Rattle.task.specs.Ast.{Constant};
 ghost use Rattle.smt_text.specs.Text.{write_name, write_string as string_text, write_parameter as parameter_text, write_constant, write_boolean as boolean_text, write_quantifier};
 ghost use Rattle.output.specs.Emit.{output, emits};
+ghost use Rattle.smt_word.specs.Row.{Calls};
 
 use output::Out;
 use task::Quantifier;
@@ -99,4 +100,26 @@ pub fn open_quantifier(q: Quantifier, buf: &mut [u8], out: Out) -> Out
         Quantifier::Exists => out.bytes(buf, b"(exists"),
         Quantifier::Forall => out.bytes(buf, b"(forall"),
     }
+}
+
+// Sends n pieces in a row, a space before each, each by the call at its position.
+pub fn write_row<F: Fn(usize, &mut [u8], Out) -> Sent>(
+    at: usize,
+    n: u64,
+    buf: &mut [u8],
+    out: Out,
+    write: F,
+) -> Sent
+    requires { F.IsAlwaysCallable write }
+    ensures { Calls (F.post write) n at (output buf.old out.len) result.at (output buf.new result.out.len) }
+{
+    let mut p = at;
+    let mut sent = out;
+    for _ in 0..n {
+        let spaced = sent.byte(buf, b' ');
+        let one = write(p, buf, spaced);
+        p = one.at;
+        sent = one.out;
+    }
+    Sent { at: p, out: sent }
 }

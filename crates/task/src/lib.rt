@@ -2,7 +2,7 @@
 #![tactic(auto)]
 
 ghost use Rattle.std.specs.Prelude.{◌≡◌, ◌≤◌, List, get_or};
-ghost use Rattle.task.specs.Decode.{Decoder, refusal, raw, number, name, text, coded, flags, bin_ops, bin_rels, thy_funcs, extends, quantifiers};
+ghost use Rattle.task.specs.Decode.{Decoder, refusal, raw, number, name, text, coded, flags, bin_ops, bin_rels, thy_funcs, quantifiers};
 ghost use Rattle.task.specs.Fault.{lower};
 ghost use Rattle.task.specs.Node.{number_of, read_of, halves_of, text_of, SortForm, SortAt, ExprForm, ExprAt, PredForm, PredAt, ConstraintAt};
 
@@ -324,17 +324,6 @@ impl Coded for BinRel {
     }
 }
 
-// The width that stands behind the code of an extend function.
-fn extend(s: &[u8], at: usize, signed: bool) -> Read<ThyFunc>
-    ensures { extends signed s.now at ≡ read_of result }
-{
-    let (width, p) = byte_at(s, at)?;
-    if signed {
-        return Ok((ThyFunc::BvSignExtend(width), p));
-    }
-    Ok((ThyFunc::BvZeroExtend(width), p))
-}
-
 impl Coded for ThyFunc {
     ghost codes = { thy_funcs };
 
@@ -346,8 +335,8 @@ impl Coded for ThyFunc {
             2 => Ok((ThyFunc::StrPrefixOf, at)),
             3 => Ok((ThyFunc::StrSuffixOf, at)),
             4 => Ok((ThyFunc::StrContains, at)),
-            5 => extend(s, at, false),
-            6 => extend(s, at, true),
+            5 => byte_at(s, at).map(|(w, p)| (ThyFunc::BvZeroExtend(w), p)),
+            6 => byte_at(s, at).map(|(w, p)| (ThyFunc::BvSignExtend(w), p)),
             7 => Ok((ThyFunc::IntToBv8, at)),
             8 => Ok((ThyFunc::Bv8ToInt, at)),
             9 => Ok((ThyFunc::IntToBv32, at)),

@@ -1,15 +1,18 @@
 -- Walking pieces in a row adds up to the walk of the whole: laws over the decoder of one piece and the faults.
+use Rattle.std.specs.Prelude.{Ok, Err, ◌^◌}
 use mathlib.Core.Path.{◌≡◌, refl, sym, ap, ◌∙◌}
 use mathlib.Core.List.{List}
-use Prim.Native.Nat.{ℕ, suc, ◌+◌, ◌-◌, ◌<◌, ◌≤◌}
+use Prim.Native.Nat.{ℕ, zero, suc, ◌+◌, ◌-◌, ◌<◌, ◌≤◌}
 use native.Mathlib.Omega.{arith}
 use Rattle.task.specs.declared.Fault.{Fault}
 use Rattle.task.specs.declared.Fault.TheVariants.{Sound}
+use Rattle.task.specs.declared.Refusal.{Refusal}
+use Rattle.task.specs.Node.{number_of, read_of}
 use Rattle.task.specs.Decode.{Res, got, refuse, bind, Decoder, give, ◌▹◌, many}
 use Rattle.task.specs.Fault.{lower}
 use Rattle.task.proofs.Reading.{bind_got, got_refuse}
 use Rattle.task.proofs.Judging.{lower_sound, sound_lower, lower_assoc}
-use Rattle.task_check.specs.Walk.{walked, after}
+use Rattle.task_check.specs.Walk.{walked, after, Answer, row, Answers, Rows}
 
 pub after_sound : (w : Res Fault) → after Sound w ≡ w
 after_sound (got f p) = ap (λ (z : Fault). got z p) (sound_lower f)
@@ -52,16 +55,25 @@ module _ {A B : Type 0} (one : A → Fault) (make : A → B) (x : Res A) (v : Re
       let i = bind_got x (λ a p. got (make a) p) b z g in
       got_refuse (sym i.first ∙ refused_is one x k (sym h ∙ e))
 
+-- PIECES IN A ROW
+
 module _ {A R : Type 0} {end : R} {more : A → R → R} {one : A → Fault} {all : R → Fault} (fold : Fold end more one all) (d : Decoder A) (s : List ℕ) where
   put_before : (a : A) (x : Res R) → walked all (bind x (λ b q. got (more a b) q)) ≡ after (one a) (walked all x)
   put_before a (got b q) = ap (λ (z : Fault). got z q) (fold.step a b)
   put_before a (refuse k) = refl
 
-  row_got : (n p q : ℕ) (a : A) → d s p ≡ got a q → walked all (many end more d (suc n) s p) ≡ after (one a) (walked all (many end more d n s q))
-  row_got n p q a e = rw e (put_before a (many end more d n s q))
+  -- the answers for the pieces in a row are the walk of the whole
+  row_walks : (n p : ℕ) → row (λ q. walked one (d s q)) n p ≡ walked all (many end more d n s p)
+  row_walks zero p = ap (λ (z : Fault). got z p) (sym fold.none)
+  row_walks (suc n) p = go (d s p) (row_walks n)
+    where
+      go : (x : Res A) → ((q : ℕ) → row (λ r. walked one (d s r)) n q ≡ walked all (many end more d n s q))
+          → bind (walked one x) (λ f q. after f (row (λ r. walked one (d s r)) n q)) ≡ walked all (bind x (λ a q. bind (many end more d n s q) (λ b r. got (more a b) r)))
+      go (got a q) h = ap (after (one a)) (h q) ∙ sym (put_before a (many end more d n s q))
+      go (refuse k) h = refl
 
-  row_refused : (n p k : ℕ) → d s p ≡ refuse k → walked all (many end more d (suc n) s p) ≡ refuse k
-  row_refused n p k e = rw e
+  pub row_is : (n p : ℕ) (call : ℕ → Answer → Type 0) (x : Res Fault) → Rows call n p x → Answers call (λ q. walked one (d s q)) → x ≡ walked all (many end more d n s p)
+  row_is n p call x r a = r.are (λ q. walked one (d s q)) a ∙ row_walks n p
 
   module _ {B : Type 0} (whole : B → Fault) where
     -- an operand, and then the others
@@ -88,30 +100,32 @@ module _ {A R : Type 0} {end : R} {more : A → R → R} {one : A → Fault} {al
         go (got r q) = ap (λ (z : Fault). got z q) (h r)
         go (refuse j) = refl
 
-  pub row_starts : (m p : ℕ) → after Sound (walked all (many end more d (m - 0) s p)) ≡ walked all (many end more d m s p)
-  row_starts m p = let e : m - 0 ≡ m = omega arith in rw e (after_sound (walked all (many end more d m s p)))
+-- CALLS IN A ROW
 
-  -- the loop: of m members i were walked, the others stand from p on; f is the fault so far, x the answer for the whole
-  module _ (m i p : ℕ) (f : Fault) (x : Res Fault) where
-    pub row_goes : (q : ℕ) (g : Fault) → i < m → got g q ≡ walked one (d s p) → after f (walked all (many end more d (m - i) s p)) ≡ x
-        → after (lower f g) (walked all (many end more d (m - (i + 1)) s q)) ≡ x
-    row_goes q g l e h =
-        let y = next_is one (d s p) q g e in
-        let k : m - i ≡ suc (m - (i + 1)) = omega arith in
-        let r : walked all (many end more d (m - i) s p) ≡ after g (walked all (many end more d (m - (i + 1)) s q)) =
-        ap (λ (k : ℕ). walked all (many end more d k s p)) k ∙ row_got (m - (i + 1)) p q y.value y.is ∙ ap (λ (z : Fault). after z (walked all (many end more d (m - (i + 1)) s q))) y.fault in
-        after_after f g (walked all (many end more d (m - (i + 1)) s q)) ∙ sym (ap (after f) r) ∙ h
+module _ (call : ℕ → Answer → Type 0) (m at : ℕ) where
+  -- the loop: of m pieces i were answered for, the others stand from p on, and f is the fault so far
+  pub record Rowing (i p : ℕ) (f : Fault) : Type 0 where
+    pub low : p < 2 ^ 64
+    pub owes : (one : ℕ → Res Fault) → Answers call one → after f (row one (m - i) p) ≡ row one m at
 
-    pub row_stops : (k : ℕ) → i < m → refuse k ≡ walked one (d s p) → after f (walked all (many end more d (m - i) s p)) ≡ x → refuse k ≡ x
-    row_stops k l e h =
-        let n : m - i ≡ suc (m - (i + 1)) = omega arith in
-        let r : walked all (many end more d (m - i) s p) ≡ refuse k =
-        ap (λ (j : ℕ). walked all (many end more d j s p)) n ∙ row_refused (m - (i + 1)) p k (refused_is one (d s p) k e) in
-        sym (ap (after f) r) ∙ h
+  pub rowing_starts : at < 2 ^ 64 → Rowing 0 at Sound
+  rowing_starts l = record { low = l; owes = λ one a. let e : m - 0 ≡ m = omega arith in rw e (after_sound (row one m at)) }
 
-    pub row_ends : m ≤ i → after f (walked all (many end more d (m - i) s p)) ≡ x → got f p ≡ x
-    row_ends l h =
-        let n : m - i ≡ 0 = omega arith in
-        let r : walked all (many end more d (m - i) s p) ≡ got Sound p =
-        ap (λ (j : ℕ). walked all (many end more d j s p)) n ∙ ap (λ (z : Fault). got z p) fold.none in
-        ap (λ (z : Fault). got z p) (sym (lower_sound f)) ∙ sym (ap (after f) r) ∙ h
+  module _ (i p : ℕ) (f : Fault) (w : Rowing i p f) where
+    next : (one : ℕ → Res Fault) → Answers call one → (r : Answer) → i < m → call p r → row one (m - i) p ≡ bind (read_of r) (λ g q. after g (row one (m - (i + 1)) q))
+    next one a r h c = let k : m - i ≡ suc (m - (i + 1)) = omega arith in let e = a p r w.low c in rw (k, e)
+
+    pub rowing_goes : i < m → (g : Fault) (q : ℕ) → call p (Ok (g, q)) → q < 2 ^ 64 → (f' : Fault) → f' ≡ lower f g → Rowing (i + 1) q f'
+    rowing_goes h g q c l f' e =
+        record {
+          low = l;
+          owes = λ one a. rw e (after_after f g (row one (m - (i + 1)) q) ∙ sym (ap (after f) (next one a (Ok (g, q)) h c)) ∙ w.owes one a);
+        }
+
+    pub rowing_stops : i < m → (k : Refusal) → call p (Err k) → Rows call m at (refuse (number_of k))
+    rowing_stops h k c = record { are = λ one a. sym (ap (after f) (next one a (Err k) h c)) ∙ w.owes one a }
+
+    pub rowing_ends : m ≤ i → Rows call m at (got f p)
+    rowing_ends h =
+        let k : m - i ≡ 0 = omega arith in
+        record { are = λ one a. ap (λ (z : Fault). got z p) (sym (lower_sound f)) ∙ (rw k at (w.owes one a)) }

@@ -1,9 +1,11 @@
 -- What the checking walkers answer.
-use Rattle.std.specs.Prelude.{ℕ, Bool, false, not, List, [], ◌∷◌}
+use Rattle.std.specs.Prelude.{◌≡◌, ℕ, zero, suc, ◌<◌, ◌^◌, Bool, false, not, List, [], ◌∷◌, Result}
 use Rattle.task.specs.declared.Fault.{Fault}
+use Rattle.task.specs.declared.Refusal.{Refusal}
+use Rattle.task.specs.Node.{read_of}
 use Rattle.task.specs.declared.Quantifier.TheVariants.{Forall}
 use Rattle.task.specs.Ast.{Expr, Exprs, Pred}
-use Rattle.task.specs.Decode.{Res, got, refuse, Decoder, give, ◌▹◌, many, counted, name, binder, given, dec_expr}
+use Rattle.task.specs.Decode.{Res, got, refuse, bind, Decoder, give, ◌▹◌, many, counted, name, binder, given, dec_expr}
 use Rattle.task.specs.Fault.{lower, name_fault, text_fault, width_fault, thy_func_fault}
 use Rattle.task.specs.Task.{literally_true}
 use Rattle.task.specs.declared.SortNode.{SortNode}
@@ -25,6 +27,23 @@ walked fault (refuse k) = refuse k
 abbrev pub after : Fault → Res Fault → Res Fault
 after f (got g p) = got (lower f g) p
 after f (refuse k) = refuse k
+
+-- what a walker answers
+abbrev pub Answer : Type 0
+Answer = Result (Fault × ℕ) Refusal
+
+-- the answer for n pieces in a row, given the answer for one at each position
+abbrev pub row : (ℕ → Res Fault) → ℕ → ℕ → Res Fault
+row one zero at = got Sound at
+row one (suc n) at = bind (one at) (λ f p. after f (row one n p))
+
+-- calls answer what is told for each position
+abbrev pub Answers : (ℕ → Answer → Type 0) → (ℕ → Res Fault) → Type 0
+Answers call one = (p : ℕ) (r : Answer) → p < 2 ^ 64 → call p r → read_of r ≡ one p
+
+-- x is the answer for n pieces in a row, given what calls answer for one at each position
+pub record Rows (call : ℕ → Answer → Type 0) (n at : ℕ) (x : Res Fault) : Type 0 where
+  pub are : (one : ℕ → Res Fault) → Answers call one → x ≡ row one n at
 
 -- what a sort's node leaves to be walked
 abbrev pub sort_parts : Bool → SortNode → SortParts

@@ -7,7 +7,7 @@ ghost use Rattle.task.specs.Ast.{Sorts, Exprs};
 ghost use Rattle.task.specs.Decode.{many, name, binder, given, dec_sort, dec_expr, dec_pred};
 ghost use Rattle.task.specs.Fault.{each, name_fault, text_fault, width_fault, sort_fault, sorts_fault, binder_fault, needs_sort, thy_func_fault, given_fault, expr_fault, exprs_fault, pred_fault};
 ghost use Rattle.task.specs.Node.{read_of};
-ghost use Rattle.task_check.specs.Walk.{walked, after as after_of, sort_parts, expr_parts, applied, quantified, read_true, named_at};
+ghost use Rattle.task_check.specs.Walk.{walked, after as after_of, Rows, sort_parts, expr_parts, applied, quantified, read_true, named_at};
 
 use task::{ExprNode, Fault, PredNode, Read, Refusal, SortNode, ThyFunc};
 
@@ -32,6 +32,21 @@ pub fn after(f: Fault, walked: Read<Fault>) -> Read<Fault>
     ensures { read_of result ≡ after_of f (read_of walked) }
 {
     walked.map(|(g, p)| (f.lower(g), p))
+}
+
+// n pieces in a row, each walked by the call at its position.
+pub fn check_row<F: Fn(usize) -> Read<Fault>>(at: usize, n: u64, check: F) -> Read<Fault>
+    requires { F.IsAlwaysCallable check }
+    ensures { Rows (F.post check) n at (read_of result) }
+{
+    let mut p = at;
+    let mut fault = Fault::Sound;
+    for _ in 0..n {
+        let (f, q) = check(p)?;
+        p = q;
+        fault = fault.lower(f);
+    }
+    Ok((fault, p))
 }
 
 // The fault of a name: it is no symbol.
@@ -138,14 +153,10 @@ pub fn check_sort(s: &[u8], at: usize, levels: usize, under: bool) -> Read<Fault
 pub fn check_sorts(s: &[u8], at: usize, n: u64, levels: usize) -> Read<Fault>
     ensures { read_of result ≡ walked sorts_fault (many Sorts.none Sorts.more (dec_sort levels) n s.now at) }
 {
-    let mut p = at;
-    let mut fault = Fault::Sound;
-    for _ in 0..n {
-        let (f, q) = check_sort(s, p, levels, false)?;
-        p = q;
-        fault = fault.lower(f);
-    }
-    Ok((fault, p))
+    let one = |p|
+        ensures { read_of result ≡ walked (sort_fault false) (dec_sort levels s.entry.now p) }
+    { check_sort(s, p, levels, false) };
+    check_row(at, n, one)
 }
 
 // A name and a sort.
@@ -161,14 +172,7 @@ pub fn check_binder(s: &[u8], at: usize, levels: usize) -> Read<Fault>
 pub fn check_binders(s: &[u8], at: usize, n: u64, levels: usize) -> Read<Fault>
     ensures { read_of result ≡ walked (each binder_fault) (many [] ◌∷◌ (binder levels) n s.now at) }
 {
-    let mut p = at;
-    let mut fault = Fault::Sound;
-    for _ in 0..n {
-        let (f, q) = check_binder(s, p, levels)?;
-        p = q;
-        fault = fault.lower(f);
-    }
-    Ok((fault, p))
+    check_row(at, n, |p| check_binder(s, p, levels))
 }
 
 // The output sort of an application, if there is one.
@@ -260,14 +264,10 @@ pub fn check_expr(s: &[u8], at: usize, levels: usize, head: bool) -> Read<Fault>
 pub fn check_exprs(s: &[u8], at: usize, n: u64, levels: usize) -> Read<Fault>
     ensures { read_of result ≡ walked exprs_fault (many Exprs.none Exprs.more (dec_expr levels) n s.now at) }
 {
-    let mut p = at;
-    let mut fault = Fault::Sound;
-    for _ in 0..n {
-        let (f, q) = check_expr(s, p, levels, false)?;
-        p = q;
-        fault = fault.lower(f);
-    }
-    Ok((fault, p))
+    let one = |p|
+        ensures { read_of result ≡ walked (expr_fault false) (dec_expr levels s.entry.now p) }
+    { check_expr(s, p, levels, false) };
+    check_row(at, n, one)
 }
 
 // An application behind its flag: the output sort, the head, and counted arguments.
@@ -312,17 +312,11 @@ pub fn check_pred(s: &[u8], at: usize, levels: usize) -> Read<Fault>
 pub fn check_preds(s: &[u8], at: usize, n: u64, levels: usize) -> Read<Fault>
     ensures { read_of result ≡ walked (each pred_fault) (many [] ◌∷◌ (dec_pred levels) n s.now at) }
 {
-    let mut p = at;
-    let mut fault = Fault::Sound;
-    for _ in 0..n {
-        let (f, q) = check_pred(s, p, levels)?;
-        p = q;
-        fault = fault.lower(f);
-    }
-    Ok((fault, p))
+    check_row(at, n, |p| check_pred(s, p, levels))
 }
 
 // Whether the predicate at a position is literally true: the three bytes of Boolean true as a predicate stand there, and levels are left for them.
+// Test by test: tried as a slice's pattern, whose tests of bytes have no names for a proof to cite.
 #[tactic(auto, using(crate::proofs::Preds::true_none, crate::proofs::Preds::true_at_lem, crate::proofs::Preds::true_short, crate::proofs::Preds::true_first, crate::proofs::Preds::true_second, crate::proofs::Preds::true_third))]
 pub fn is_literally_true(s: &[u8], at: usize, levels: usize) -> bool
     ensures { result ≡ read_true (dec_pred levels s.now at) }

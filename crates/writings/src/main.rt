@@ -7,7 +7,9 @@ ghost use Rattle.std.specs.Prelude.{◌≤◌, length};
 ghost use Rattle.names.specs.Table.{Chained};
 
 use item_check::Section;
+use names::Table;
 use output::Out;
+use smt_sort::Encoder;
 use smt_text::Edition;
 use smt_word::Sent;
 
@@ -82,25 +84,34 @@ fn write_piece(piece: Piece, buf: &mut [u8]) -> usize {
         return 0;
     }
     let mut table = [0u16; 66562];
-    declared::push_section(piece.body, 0, piece.end, Section::Datatypes, &mut table);
+    let mut names = Table {
+        file: piece.body,
+        words: &mut table,
+    };
+    declared::push_section(&mut names, 0, piece.end, Section::Datatypes);
     smt_sort::set_edition(&mut table, piece.edition);
-    let sent = write_encoded(piece, &table, buf);
+    let sent = write_encoded(piece, encoder(piece.body, &table), buf);
     sent.out.len
 }
 
-fn write_encoded(piece: Piece, enc: &[u16], buf: &mut [u8]) -> Sent
-    requires { Chained piece.body.now enc.now }
+// A table as an encoder.
+fn encoder<'a>(file: &'a [u8], words: &'a [u16]) -> Encoder<'a>
+    requires { Chained file.now words.now }
 {
+    Encoder { file, words }
+}
+
+fn write_encoded(piece: Piece, enc: Encoder, buf: &mut [u8]) -> Sent {
     let out = Out::new();
     let at = piece.end;
     match piece.kind {
-        0 => smt_sort::write_sort(piece.body, at, 256, enc, buf, out),
-        1 => smt_expr::write_expr(piece.body, at, 256, enc, buf, out),
-        2 => smt_fmt::write_pred(piece.body, at, 256, enc, buf, out),
-        3 => smt_fmt::write_datatype_decl(piece.body, at, enc, buf, out),
-        4 => smt_fmt::write_const_decl(piece.body, at, enc, buf, out),
-        5 => smt_fmt::write_fun_def(piece.body, at, enc, buf, out),
-        6 => smt_fmt::write_kvar_decl(piece.body, at, enc, buf, out),
+        0 => smt_sort::write_sort(enc, at, 256, buf, out),
+        1 => smt_expr::write_expr(enc, at, 256, buf, out),
+        2 => smt_fmt::write_pred(enc, at, 256, buf, out),
+        3 => smt_fmt::write_datatype_decl(enc, at, buf, out),
+        4 => smt_fmt::write_const_decl(enc, at, buf, out),
+        5 => smt_fmt::write_fun_def(enc, at, buf, out),
+        6 => smt_fmt::write_kvar_decl(enc, at, buf, out),
         7..=255 => Sent { at, out },
     }
 }

@@ -8,7 +8,7 @@ loop-offset-init c = along_start _ _ _ _
 
 pub loop-offset-preserved : goal.loop-offset-preserved
 unfolding Sends
-loop-offset-preserved c = along_more _ _ _ _ _ _ _ c.loop-offset-test.true c.loop-offset.invariant (rw c.position.ensures at (own_sent _ _ _ _ _ _ _ _ _ c.write_own_guards-own.ensures))
+loop-offset-preserved c = along_more _ _ _ _ _ _ _ c.loop-offset-test.true c.loop-offset.invariant (rw c.from.ensures at (own_sent _ _ _ _ _ _ _ _ _ c.write_own_guards-own.ensures))
 
 pub returns : goal.returns
 unfolding Sends

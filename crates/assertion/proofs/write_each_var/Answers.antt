@@ -8,7 +8,7 @@ loop-offset-init c = along_start _ _ _ _
 
 pub loop-offset-preserved : goal.loop-offset-preserved
 unfolding Sends
-loop-offset-preserved c = along_more _ _ _ _ _ _ _ c.loop-offset-test.true c.loop-offset.invariant (rw c.position.ensures at (binder_runs _ _ _ _ _ _ c.write_binder-one.ensures))
+loop-offset-preserved c = along_more _ _ _ _ _ _ _ c.loop-offset-test.true c.loop-offset.invariant (rw c.from.ensures at (binder_runs _ _ _ _ _ _ c.write_binder-one.ensures))
 
 pub returns : goal.returns
 unfolding Sends

@@ -1,6 +1,4 @@
 -- `fitting`: each turn takes one length more, or ends.
-use Prim.Native.Nat.{◌-◌}
-use lib.ListN.{length}
 use Rattle.console.proofs.Filling.{Fitting}
 use Rattle.console.proofs.fitting.Given as goal
 

@@ -3,7 +3,7 @@
 use mathlib.Core.Path.{◌≡◌}
 use Prim.Native.Nat.{◌+◌, ◌*◌}
 use Rattle.path.specs.Offsets.{entries}
-use Rattle.smt_sort.specs.Section.{encoder_in}
+use Rattle.smt_sort.specs.Section.{encoder_by}
 use Rattle.assertion.specs.Under.{on_path}
 use Rattle.assertion.specs.Kept.{Stays}
 use Rattle.flatten.specs.Parts.{writing}
@@ -21,7 +21,7 @@ decreases-flatten_members l = 2 * l.levels + 1
 
 abbrev pub invariant-flatten_members-loop-left : goal.invariant-flatten_members-loop-left
 invariant-flatten_members-loop-left l =
-    Members (encoder_in l.s l.enc) (on_path l.s (entries l.path)) l.levels l.s l.initial.left l.initial.from.moved.at (writing l.initial.from.moved.progress l.initial.buf l.initial.lengths) l.left l.from.moved.at (writing l.from.moved.progress l.buf l.lengths)
+    Members (encoder_by l.enc) (on_path l.enc.file.now (entries l.path)) l.levels l.enc.file.now l.initial.left l.initial.from.moved.at (writing l.initial.from.moved.progress l.initial.buf l.initial.lengths) l.left l.from.moved.at (writing l.from.moved.progress l.buf l.lengths)
     × (l.from.kept ≡ l.initial.from.kept) × Stays l.initial.from.kept l.initial.text l.text
 
 abbrev pub decreases-flatten_members-loop-left : goal.decreases-flatten_members-loop-left

@@ -3,7 +3,7 @@ use mathlib.Core.Path.{◌≡◌}
 use mathlib.Core.Bool.{true}
 use Prim.Native.Nat.{◌-◌, ◌<◌}
 use Rattle.constraint_check.specs.Around.{is_head}
-use Rattle.smt_sort.specs.Section.{encoder_in}
+use Rattle.smt_sort.specs.Section.{encoder_by}
 use Rattle.assertion.specs.Kept.{Keeps}
 use Rattle.flatten.specs.Parts.{writing}
 use Rattle.flatten.specs.Walk.{Onward}
@@ -11,5 +11,5 @@ use Rattle.flatten.proofs.flatten_heads.Given as goal
 
 abbrev pub invariant-loop-i : goal.invariant-loop-i
 invariant-loop-i l =
-    Onward (λ fs. Keeps (encoder_in l.s l.enc) fs l.text l.kept) (encoder_in l.s l.enc) l.levels l.s l.row.left l.initial.moved.at (writing l.initial.moved.progress l.initial.buf l.initial.lengths) (l.row.left - l.i) l.moved.at (writing l.moved.progress l.buf l.lengths)
-    × (l.i < l.row.left → is_head l.levels l.s l.moved.at ≡ true)
+    Onward (λ fs. Keeps (encoder_by l.enc) fs l.text l.kept) (encoder_by l.enc) l.levels l.enc.file.now l.row.left l.initial.moved.at (writing l.initial.moved.progress l.initial.buf l.initial.lengths) (l.row.left - l.i) l.moved.at (writing l.moved.progress l.buf l.lengths)
+    × (l.i < l.row.left → is_head l.levels l.enc.file.now l.moved.at ≡ true)

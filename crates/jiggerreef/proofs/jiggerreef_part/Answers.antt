@@ -3,4 +3,4 @@ use Rattle.jiggerreef.proofs.Stored.{same_answer}
 use Rattle.jiggerreef.proofs.jiggerreef_part.Goals as goal
 
 pub returns : goal.returns
-returns c = rw (← c.edition_of.ensures) (let h = same_answer _ c.part-written.ensures.0 c.store_length.ensures in (h.0, h.1, c.part-written.ensures.1))
+returns c = rw (← c.into.ensures) (let h = same_answer _ c.part-written.ensures.0 c.store_length.ensures in (h.0, h.1, c.part-written.ensures.1))

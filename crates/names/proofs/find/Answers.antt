@@ -10,7 +10,7 @@ pub is_entry-requires : goal.is_entry-requires
 is_entry-requires c = record { within = follow_room _ _ _ _ _ _ c.requires _ c.loop-link.invariant c.loop-link-test.true; named = follow_named _ _ _ _ _ _ c.requires _ c.loop-link.invariant c.loop-link-test.true }
 
 pub returns-then-is_entry : goal.returns-then-is_entry
-returns-then-is_entry c = by_kinds _ _ _ _ _ _ _ c.number_of-low.ensures c.number_of-high.ensures (follow_found _ _ _ _ _ _ c.requires _ c.loop-link.invariant c.loop-link-test.true _ c.is_entry.ensures c.if-is_entry.true)
+returns-then-is_entry c = by_kinds _ _ _ _ _ _ _ c.from-low.ensures c.from-high.ensures (follow_found _ _ _ _ _ _ c.requires _ c.loop-link.invariant c.loop-link-test.true _ c.is_entry.ensures c.if-is_entry.true)
 
 pub overflow_mul-k : goal.overflow_mul-k
 overflow_mul-k c = let r = follow_room _ _ _ _ _ _ c.requires _ c.loop-link.invariant c.loop-link-test.true in omega arith
@@ -31,4 +31,4 @@ pub loop-link-preserved : goal.loop-link-preserved
 loop-link-preserved c = follow_on _ _ _ _ _ _ c.requires _ c.loop-link.invariant c.loop-link-test.true _ c.from-link-in-loop-link.ensures _ c.is_entry.ensures c.if-is_entry.false
 
 pub returns : goal.returns
-returns c = by_kinds _ _ _ _ _ _ _ c.number_of-low.ensures c.number_of-high.ensures (follow_end _ _ _ _ _ _ c.requires _ c.loop-link.invariant c.loop-link-test.false)
+returns c = by_kinds _ _ _ _ _ _ _ c.from-low.ensures c.from-high.ensures (follow_end _ _ _ _ _ _ c.requires _ c.loop-link.invariant c.loop-link-test.false)

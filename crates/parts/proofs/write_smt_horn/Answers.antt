@@ -3,4 +3,4 @@ use Rattle.parts.proofs.Scripts.{script_from_start}
 use Rattle.parts.proofs.write_smt_horn.Goals as goal
 
 pub returns : goal.returns
-returns c = script_from_start c.args.file.now c.args.enc.now c.args.b _ _ _ _ _ _ _ _ _ c.start-p0.ensures c.put_opening-p1.ensures c.put_declarations-p2.ensures c.put_text-p3.ensures c.put_assertions-p4.ensures c.put_text.ensures
+returns c = script_from_start c.args.enc.file.now c.args.enc.words.now c.args.b _ _ _ _ _ _ _ _ _ c.start-p0.ensures c.put_opening-p1.ensures c.put_declarations-p2.ensures c.put_text-p3.ensures c.put_assertions-p4.ensures c.put_text.ensures

@@ -1,8 +1,10 @@
 -- The cycle of the expression writers meets its contracts; the levels left fall.
+use Rattle.std.proofs.Common.{rules}
 use mathlib.Core.Path.{refl}
 use Rattle.task.specs.Decode.{dec_expr}
 use Rattle.smt_text.specs.Text.{write_nary}
 use Rattle.output.proofs.Sending.{row_none, row_some}
+use Rattle.smt_word.proofs.Rows.{row_sends}
 use Rattle.smt_sort.specs.Section.{encoder_in}
 use Rattle.smt_expr.specs.Parts.{exprs_text, binary_text, atom_text, nary_text}
 use Rattle.smt_expr.proofs.Exprs.{exprs_row, expr_refused, thy_func_arm, rel_is, ends_at}
@@ -40,8 +42,12 @@ write_expr-returns-in-ThyFunc t c = thy_func_arm _ _ _ _ _ _ _ c.if-levels-eq0.f
 
 pub write_nary-returns-then-n-eq0 : goal.write_nary-returns-then-n-eq0
 unfolding nary_text
-write_nary-returns-then-n-eq0 t c = row_none (exprs_row _) (dec_expr c.args.levels) c.args.s.now (λ ws. write_nary c.args.op.now ws c.args.empty.now) c.args.n c.args.from.at _ _ _ c.if-n-eq0.true c.write_word.ensures
+write_nary-returns-then-n-eq0 t c = row_none (exprs_row _) (dec_expr c.args.levels) c.args.enc.file.now (λ ws. write_nary c.args.op.now ws c.args.empty.now) c.args.n c.args.from.at _ _ _ c.if-n-eq0.true c.write_word.ensures
 
 pub write_nary-returns : goal.write_nary-returns
 unfolding nary_text exprs_text
-write_nary-returns t c = ends_at _ _ _ _ _ _ c.close_list.ensures.0 (row_some (exprs_row _) (dec_expr c.args.levels) c.args.s.now (λ ws. write_nary c.args.op.now ws c.args.empty.now) c.args.n c.args.from.at _ _ _ _ _ _ _ (λ w ws. refl) c.if-n-eq0.false c.byte-opened.ensures c.bytes-named.ensures c.write_exprs-members.ensures c.close_list.ensures.1)
+write_nary-returns t c = ends_at _ _ _ _ _ _ c.close_list.ensures.0 (row_some (exprs_row _) (dec_expr c.args.levels) c.args.enc.file.now (λ ws. write_nary c.args.op.now ws c.args.empty.now) c.args.n c.args.from.at _ _ _ _ _ _ _ (λ w ws. refl) c.if-n-eq0.false c.byte-opened.ensures c.bytes-named.ensures c.write_exprs-members.ensures c.close_list.ensures.1)
+
+pub write_exprs-returns : goal.write_exprs-returns
+unfolding exprs_text
+write_exprs-returns t c = row_sends (exprs_row _) (dec_expr c.args.levels) c.args.enc.file.now _ (λ p b o k w l y. search rules) _ _ _ _ _ c.write_row.ensures

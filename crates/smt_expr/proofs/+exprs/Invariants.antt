@@ -1,14 +1,9 @@
 -- The cycle of the expression writers meets its contracts; the levels left fall.
 use Prim.Native.Nat.{◌+◌, ◌*◌}
-use Rattle.task.specs.Decode.{dec_expr}
-use Rattle.output.specs.Emit.{output}
-use Rattle.smt_sort.specs.Section.{encoder_in}
-use Rattle.smt_sort.proofs.Rows.{Owes}
-use Rattle.smt_expr.proofs.Exprs.{exprs_row}
 use Rattle.smt_expr.proofs.+exprs.Given as goal
 
 abbrev pub decreases-write_app : goal.decreases-write_app
-decreases-write_app l = 6 * l.levels + 2
+decreases-write_app l = 6 * l.levels + 3
 
 abbrev pub decreases-write_application_head : goal.decreases-write_application_head
 decreases-write_application_head l = 6 * l.levels + 1
@@ -23,10 +18,7 @@ abbrev pub decreases-write_expr : goal.decreases-write_expr
 decreases-write_expr l = 6 * l.levels
 
 abbrev pub decreases-write_exprs : goal.decreases-write_exprs
-decreases-write_exprs l = 6 * l.levels + 1
-
-abbrev pub invariant-write_exprs-loop : goal.invariant-write_exprs-loop
-invariant-write_exprs-loop l = Owes (exprs_row (encoder_in l.s l.enc)) (dec_expr l.levels) l.s l.n l.at (output l.initial.buf l.initial.sent.len) l.counter l.p (output l.buf l.sent.len)
+decreases-write_exprs l = 6 * l.levels + 2
 
 abbrev pub decreases-write_is_ctor : goal.decreases-write_is_ctor
 decreases-write_is_ctor l = 6 * l.levels + 1
@@ -38,7 +30,7 @@ abbrev pub decreases-write_let : goal.decreases-write_let
 decreases-write_let l = 6 * l.levels + 1
 
 abbrev pub decreases-write_nary : goal.decreases-write_nary
-decreases-write_nary l = 6 * l.levels + 2
+decreases-write_nary l = 6 * l.levels + 3
 
 abbrev pub decreases-write_ne : goal.decreases-write_ne
 decreases-write_ne l = 6 * l.levels + 2
@@ -48,3 +40,6 @@ decreases-write_quantifier l = 6 * l.levels + 1
 
 abbrev pub decreases-write_unary : goal.decreases-write_unary
 decreases-write_unary l = 6 * l.levels + 1
+
+abbrev pub decreases-write_exprs-one : goal.decreases-write_exprs-one
+decreases-write_exprs-one l = 6 * l.levels + 1

@@ -9,8 +9,8 @@ use Rattle.smt_fmt.proofs.write_datatype_ctors.Goals as goal
 
 pub returns-then-n-eq0 : goal.returns-then-n-eq0
 unfolding ctor_list
-returns-then-n-eq0 c = row_none (ctors_row _) data_ctor c.args.s.now sexp_list c.args.n c.args.at _ _ _ c.if-n-eq0.true c.write_word.ensures
+returns-then-n-eq0 c = row_none (ctors_row _) data_ctor c.args.enc.file.now sexp_list c.args.n c.args.at _ _ _ c.if-n-eq0.true c.write_word.ensures
 
 pub returns : goal.returns
 unfolding ctor_list ctors_text
-returns c = row_list (ctors_row _) data_ctor c.args.s.now sexp_list c.args.n c.args.at _ _ _ _ _ _ _ (λ w ws. refl) c.if-n-eq0.false c.byte-opened.ensures c.write_ctor-first.ensures c.write_ctors-rest.ensures c.byte-closed.ensures
+returns c = row_list (ctors_row _) data_ctor c.args.enc.file.now sexp_list c.args.n c.args.at _ _ _ _ _ _ _ (λ w ws. refl) c.if-n-eq0.false c.byte-opened.ensures c.write_ctor-first.ensures c.write_ctors-rest.ensures c.byte-closed.ensures

@@ -10,8 +10,8 @@ use Rattle.smt_fmt.proofs.write_kvar.Goals as goal
 
 pub returns-then-n-eq0 : goal.returns-then-n-eq0
 unfolding write_name kvar_text
-returns-then-n-eq0 c = row_none (exprs_row _) (dec_expr _) c.args.s.now (applied c.args.x.now) c.args.n c.args.at _ _ _ c.if-n-eq0.true (refl, c.bytes-named.ensures)
+returns-then-n-eq0 c = row_none (exprs_row _) (dec_expr _) c.args.enc.file.now (applied c.args.x.now) c.args.n c.args.at _ _ _ c.if-n-eq0.true (refl, c.bytes-named.ensures)
 
 pub returns : goal.returns
 unfolding write_name kvar_text exprs_text
-returns c = row_some (exprs_row _) (dec_expr _) c.args.s.now (applied c.args.x.now) c.args.n c.args.at _ _ _ _ _ _ _ (λ w ws. refl) c.if-n-eq0.false c.byte-opened.ensures c.bytes-named-2.ensures c.write_exprs-args.ensures c.byte-closed.ensures
+returns c = row_some (exprs_row _) (dec_expr _) c.args.enc.file.now (applied c.args.x.now) c.args.n c.args.at _ _ _ _ _ _ _ (λ w ws. refl) c.if-n-eq0.false c.byte-opened.ensures c.bytes-named-2.ensures c.write_exprs-args.ensures c.byte-closed.ensures

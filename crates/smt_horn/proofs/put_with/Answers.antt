@@ -1,8 +1,12 @@
 -- `put_with`: what inspect found, and what was put of a task in the edition.
+use Rattle.assertion.proofs.Short.{are_bytes}
 use Rattle.smt_horn.proofs.Entries.{put_refused}
 use Rattle.std.proofs.Common.{rules}
 use Rattle.smt_horn.proofs.Entries.{accepted, edition_names, edition_is, put_given}
 use Rattle.smt_horn.proofs.put_with.Goals as goal
+
+pub invariant_of-enc : goal.invariant_of-enc
+invariant_of-enc c = record { chained = (edition_names _ _ c.in_ok-found.ensures.1 c.args.edition _ c.set_edition.ensures).chained; bytes = are_bytes _ c.type_inv.file }
 
 pub put_task-requires : goal.put_task-requires
 put_task-requires c = (accepted _ _ c.in_ok-found.ensures.0, edition_names _ _ c.in_ok-found.ensures.1 c.args.edition _ c.set_edition.ensures)

@@ -1,5 +1,4 @@
 -- `put_within`: a table of zeros.
-use native.Mathlib.Omega.{arith}
 use lib.ListN.{length-replicate}
 use Rattle.names.proofs.Theorems.{zeros_blank}
 use Rattle.smt_horn.proofs.put_within.Goals as goal

@@ -9,8 +9,8 @@ use Rattle.smt_sort.proofs.write_binder_list.Goals as goal
 
 pub returns-then-n-eq0 : goal.returns-then-n-eq0
 unfolding binder_list
-returns-then-n-eq0 c = row_none (binders_row _) (binder _) c.args.s.now sexp_list c.args.n c.args.at _ _ _ c.if-n-eq0.true c.write_word.ensures
+returns-then-n-eq0 c = row_none (binders_row _) (binder _) c.args.enc.file.now sexp_list c.args.n c.args.at _ _ _ c.if-n-eq0.true c.write_word.ensures
 
 pub returns : goal.returns
 unfolding binder_list binders_text
-returns c = row_list (binders_row _) (binder _) c.args.s.now sexp_list c.args.n c.args.at _ _ _ _ _ _ _ (λ w ws. refl) c.if-n-eq0.false c.byte-opened.ensures c.write_binder-first.ensures c.write_binders-rest.ensures c.byte-closed.ensures
+returns c = row_list (binders_row _) (binder _) c.args.enc.file.now sexp_list c.args.n c.args.at _ _ _ _ _ _ _ (λ w ws. refl) c.if-n-eq0.false c.byte-opened.ensures c.write_binder-first.ensures c.write_binders-rest.ensures c.byte-closed.ensures

@@ -9,8 +9,8 @@ use Rattle.smt_sort.proofs.write_sort_list.Goals as goal
 
 pub returns-then-n-eq0 : goal.returns-then-n-eq0
 unfolding sort_list
-returns-then-n-eq0 c = row_none (sorts_row _) (dec_sort _) c.args.s.now sexp_list c.args.n c.args.at _ _ _ c.if-n-eq0.true c.write_word.ensures
+returns-then-n-eq0 c = row_none (sorts_row _) (dec_sort _) c.args.enc.file.now sexp_list c.args.n c.args.at _ _ _ c.if-n-eq0.true c.write_word.ensures
 
 pub returns : goal.returns
 unfolding sort_list sorts_text
-returns c = row_list (sorts_row _) (dec_sort _) c.args.s.now sexp_list c.args.n c.args.at _ _ _ _ _ _ _ (λ w ws. refl) c.if-n-eq0.false c.byte-opened.ensures c.write_sort-first.ensures c.write_sorts-rest.ensures c.byte-closed.ensures
+returns c = row_list (sorts_row _) (dec_sort _) c.args.enc.file.now sexp_list c.args.n c.args.at _ _ _ _ _ _ _ (λ w ws. refl) c.if-n-eq0.false c.byte-opened.ensures c.write_sort-first.ensures c.write_sorts-rest.ensures c.byte-closed.ensures
