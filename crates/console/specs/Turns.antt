@@ -1,5 +1,5 @@
 -- What `hornscript` writes: by turns, in each from a part on as many as fit its buffer and its table of lengths.
-use Rattle.std.specs.Prelude.{ℕ, zero, suc, ◌+◌, ◌-◌, ◌≤◌, ◌<◌, cond, ◌≡◌, List, [], ◌∷◌, ◌++◌, map, leb, length, take, drop}
+use Rattle.std.specs.Prelude.{Result, Ok, Err, ℕ, zero, suc, ◌+◌, ◌-◌, ◌≤◌, ◌<◌, cond, ◌≡◌, List, [], ◌∷◌, ◌++◌, map, leb, length, take, drop}
 use Rattle.task.specs.Ast.{Task}
 use Rattle.task.specs.Decode.{Res, got, refuse}
 use Rattle.task.specs.Task.{task_of}
@@ -70,3 +70,8 @@ print_of names (refuse n) = refused n
 -- how many bytes of the script are handed out, in the edition of Z3, or the number of the refusal
 unfoldable pub print_answer : List ℕ → Answer
 print_answer file = print_of (names_of Z3) (task_of file)
+
+-- what is answered of the line of a number, in these terms
+abbrev pub printed : Result ℕ ℕ → Answer
+printed (Ok n) = values (n ∷ [])
+printed (Err n) = refused n

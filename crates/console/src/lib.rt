@@ -5,14 +5,14 @@
 
 ghost use Rattle.std.specs.Prelude.{◌≡◌, length};
 ghost use Rattle.inspect.specs.Inspect.{Names};
-ghost use Rattle.task.specs.Node.{number_of};
+ghost use Rattle.task.specs.Refusals.{number_of};
 ghost use Rattle.task.specs.Task.{task_of};
 ghost use Rattle.smt_text.specs.Editions.{names_of};
 ghost use Rattle.smt_sort.specs.Section.{edition_in};
 ghost use Rattle.horn_text.specs.Answers.{refused};
 ghost use Rattle.flatten.specs.Parts.{up};
 ghost use Rattle.parts.specs.Whole.{Accepted};
-ghost use Rattle.console.specs.Turns.{fitting as fitting_of, Fills, Begun, Short, Whole, print_of, print_answer};
+ghost use Rattle.console.specs.Turns.{fitting as fitting_of, Fills, Begun, Short, Whole, print_of, print_answer, printed};
 ghost use Rattle.smt_horn.specs.Calls.{written};
 
 use flatten::Range;
@@ -107,13 +107,21 @@ fn print_turns(enc: Encoder, b: Bounds, n: usize) -> usize
     done
 }
 
-// Writes the line of a refusal.
-pub fn print_refused(refusal: Refusal) -> Printed
-    ensures { written result ≡ refused (number_of refusal) }
+// Writes the line of a number of a refusal.
+pub fn print_refused(n: u8) -> Result<usize, u8>
+    ensures { printed result ≡ refused n }
 {
     io::write_all(STDOUT_FILENO, b"refused ");
-    io::print_decimal(STDOUT_FILENO, u8::from(refusal).into());
+    io::print_decimal(STDOUT_FILENO, n.into());
     io::write_all(STDOUT_FILENO, b"\n");
+    Err(n)
+}
+
+// Writes the line of a refusal.
+pub fn print_refusal(refusal: Refusal) -> Printed
+    ensures { written result ≡ refused (number_of refusal) }
+{
+    let _ = print_refused(refusal.into());
     Err(refusal)
 }
 
@@ -129,7 +137,7 @@ fn print_task(enc: Encoder, b: Bounds) -> Printed
     };
     let sizes = parts::measure(enc, b, all, &mut none);
     if 65536 < sizes.longest {
-        return print_refused(Refusal::Room);
+        return print_refusal(Refusal::Room);
     }
     Ok(print_turns(enc, b, sizes.seen))
 }
@@ -149,6 +157,6 @@ pub fn print_script(file: &[u8]) -> Printed
             };
             print_task(enc, b)
         }
-        Err(refusal) => print_refused(refusal),
+        Err(refusal) => print_refusal(refusal),
     }
 }

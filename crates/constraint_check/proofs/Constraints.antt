@@ -16,7 +16,8 @@ use Rattle.task.specs.Decode.{Res, got, refuse, bind, give, ◌▹◌, number, m
 use Rattle.task.specs.Fault.{lower, each, name_fault, sort_fault, binder_fault, pred_fault, shadow_fault, constraint_fault, constraints_fault}
 use Rattle.task.specs.Task.{pred_heads, heads_of, heads_in}
 use Rattle.task.specs.declared.Refusal.{Refusal}
-use Rattle.task.specs.Node.{number_of, constraint_of, ConstraintAt}
+use Rattle.task.specs.Node.{constraint_of, ConstraintAt}
+use Rattle.task.specs.Refusals.{number_of}
 use Rattle.task.proofs.Reading.{coded_at, bind_got, same_value}
 use Rattle.task.proofs.Judging.{lower_assoc, lower_comm, lower_sound, sound_lower}
 use Rattle.task.proofs.Nodes.{constraint_at}

@@ -2,12 +2,13 @@
 use mathlib.Core.Path.{◌≡◌, refl, sym, ap, ◌∙◌}
 use mathlib.Core.Bool.{Bool, true, false, cond, ◌||◌, ◌&&◌}
 use mathlib.Core.List.{List, [], ◌∷◌, ◌++◌}
-use Prim.Native.Nat.{ℕ, ◌<◌}
+use Prim.Native.Nat.{ℕ, ◌<◌, ◌≤◌}
 use native.Mathlib.Omega.{arith}
 use lib.Dec.{ltb, eqb}
-use lib.ListN.{length, get_or}
+use lib.ListN.{length, get_or, take, drop}
 use borrow.Author.Tests.{ltb-true, eqb-true}
 use Rattle.std.specs.List.{list_any}
+use Rattle.std.proofs.lemmas.List.{take_all}
 use Rattle.smtlib.specs.Lexicon.{same, is_one}
 use Rattle.smtlib.proofs.Bools.{clash}
 use Rattle.task.specs.declared.Fault.TheVariants.{Sound, Shadowed}
@@ -33,6 +34,10 @@ names_append s (a ∷ os) o x p e = ap (named (name s a)) (names_append s os o x
     front : (y : Res (List ℕ)) (xs : List (List ℕ)) → named y (xs ++ x ∷ []) ≡ named y xs ++ x ∷ []
     front (got z q) xs = refl
     front (refuse k) xs = refl
+
+-- none is left out
+pub none_out : (k n : ℕ) (os : List ℕ) → n ≡ 0 → length os ≤ k → take k (drop n os) ≡ os
+none_out k n os e h = rw e (take_all k os h)
 
 -- the comparison with each name on a path
 module _ (s w : List ℕ) where

@@ -34,7 +34,7 @@ fn is_repeated(s: &[u8], x: &[u8], offsets: &[u16]) -> bool
 }
 
 // The fault of a ForAll that is named like one on the path.
-#[tactic(auto, using(crate::proofs::Names::shadow_repeats, crate::proofs::Names::shadow_free))]
+#[tactic(auto, using(crate::proofs::Names::shadow_repeats, crate::proofs::Names::shadow_free, crate::proofs::Names::none_out))]
 fn shadow_fault(s: &[u8], x: &[u8], path: Path) -> Fault
     requires { Leaves path 0 }
     ensures { result ≡ shadow_fault (names_on s.now (entries path)) x.now }
@@ -126,9 +126,10 @@ pub fn check_header(s: &[u8], at: usize, levels: usize) -> Read<Fault>
     task_check::after(fault, task_check::check_preds(s, q, n, levels))
 }
 
-// A ForAll behind its code: header and body.
+// A ForAll behind its code: header and body. It is compiled into `check_within`, so that a level has one copy of the path on the stack.
 #[tactic(auto, using(crate::proofs::Constraints::for_all_unnamed, crate::proofs::Constraints::for_all_stops, crate::proofs::Constraints::for_all_body_stops, path::proofs::Entries::leaves_fewer, path::proofs::Entries::leaves_pushed, crate::proofs::Names::name_inside))]
 #[cycle(constraints)]
+#[inline(always)]
 fn check_for_all(s: &[u8], at: usize, levels: usize, mut path: Path) -> Read<Counted>
     requires { Leaves path (levels + 1) × (length s.now < 65536) }
     ensures { read_of result ≡ tally (constraint_fault (names_on s.now (entries path))) heads_of (for_all levels s.now at) }

@@ -17,7 +17,8 @@ use Rattle.task.specs.Fault.{pred_fault}
 use Rattle.task.specs.Run.{Runs}
 use Rattle.task.specs.Task.{literally_true}
 use Rattle.task.specs.declared.Refusal.{Refusal}
-use Rattle.task.specs.Node.{Answered, number_of, constraint_of, ConstraintAt}
+use Rattle.task.specs.Node.{Answered, constraint_of, ConstraintAt}
+use Rattle.task.specs.Refusals.{number_of}
 use Rattle.task.proofs.Reading.{bind_got, got_refuse}
 use Rattle.task.proofs.Levels.{deeper}
 use Rattle.task.proofs.Nodes.{constraint_at}

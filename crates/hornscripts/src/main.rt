@@ -2,6 +2,8 @@
 // `hornscript` writes. It reads at most 4,096 files of at most 65,535 bytes.
 #![tactic(auto)]
 
+ghost use Rattle.std.specs.Prelude.{◌≡◌, ◌≤◌, Some, length};
+
 use smt_horn::Sizes;
 use smt_text::Edition;
 
@@ -19,7 +21,9 @@ fn main() {
 }
 
 // The next file, put into the buffer, if there is one.
-fn next_file(buffer: &mut [u8]) -> Option<&[u8]> {
+fn next_file(buffer: &mut [u8]) -> Option<&[u8]>
+    ensures { (file : _) → result ≡ Some file → length file.now ≤ 65535 }
+{
     let mut head = [0u8; 4];
     if io::read_full(0, &mut head) < 4 {
         return None;
@@ -42,7 +46,7 @@ fn print_file(number: u64, file: &[u8]) {
     match smt_horn::survey(file, Edition::Z3) {
         Ok(sizes) => print_sizes(sizes),
         Err(refusal) => {
-            let _ = console::print_refused(refusal);
+            let _ = console::print_refusal(refusal);
         }
     }
     let _ = console::print_script(file);

@@ -25,7 +25,7 @@ use Rattle.trailer.proofs.Trailers.{framed_is}
 use Rattle.inspect.specs.declared.Inspected.{Inspected}
 use Rattle.task.specs.declared.Refusal.{Refusal}
 use Rattle.task.specs.declared.Refusal.TheVariants.{Trailer}
-use Rattle.task.specs.Node.{number_of}
+use Rattle.task.specs.Refusals.{number_of}
 use Rattle.smtlib.proofs.Bools.{clash}
 use borrow.Author.Tests.{eq-eqb, ne_eqb}
 use Rattle.inspect.specs.Inspect.{sizes_of, inspected_of}

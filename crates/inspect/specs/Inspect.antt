@@ -4,7 +4,7 @@ use Rattle.task.specs.Ast.{Task}
 use Rattle.task.specs.Decode.{Res, got, refuse}
 use Rattle.task.specs.Task.{task_of, declarations, heads_of}
 use Rattle.task.specs.declared.Refusal.{Refusal}
-use Rattle.task.specs.Node.{number_of}
+use Rattle.task.specs.Refusals.{number_of}
 use Rattle.trailer.specs.declared.Bounds.{Bounds}
 use Rattle.trailer.specs.Bounds.{bounds_of}
 use Rattle.names.specs.Table.{entries, Chained}

@@ -11,7 +11,7 @@ use Rattle.item_check.specs.declared.Section.{Section}
 use Rattle.item_check.specs.declared.Section.TheVariants.{Comments, Datatypes, Constants, Functions, KVars}
 use Rattle.trailer.specs.declared.Bounds.{Bounds}
 use Rattle.task.specs.declared.Refusal.{Refusal}
-use Rattle.task.specs.Node.{number_of}
+use Rattle.task.specs.Refusals.{number_of}
 use Rattle.inspect.specs.declared.Inspected.{Inspected}
 use Rattle.inspect.specs.Inspect.{sizes_of}
 

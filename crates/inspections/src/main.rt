@@ -2,6 +2,8 @@
 // number of its refusal. It reads at most 4,096 files of at most 65,535 bytes.
 #![tactic(auto)]
 
+ghost use Rattle.std.specs.Prelude.{◌≡◌, ◌≤◌, Some, length};
+
 use trailer::Bounds;
 
 // Standard output.
@@ -18,7 +20,9 @@ fn main() {
 }
 
 // The next file, put into the buffer, if there is one.
-fn next_file(buffer: &mut [u8]) -> Option<&[u8]> {
+fn next_file(buffer: &mut [u8]) -> Option<&[u8]>
+    ensures { (file : _) → result ≡ Some file → length file.now ≤ 65535 }
+{
     let mut head = [0u8; 4];
     if io::read_full(0, &mut head) < 4 {
         return None;

@@ -15,7 +15,7 @@ use Rattle.horn_text.proofs.Demands.{demand1}
 use Rattle.horn_text.proofs.RunLaws.{run_laws}
 use Rattle.std.specs.Prelude.{Ok, Err}
 use Rattle.task.specs.declared.Refusal.{Refusal}
-use Rattle.task.specs.Node.{number_of}
+use Rattle.task.specs.Refusals.{number_of}
 use Rattle.smt_horn.specs.declared.Sizes.{Sizes}
 use Rattle.smt_horn.specs.Calls.{surveyed}
 use Rattle.jiggerreef.specs.Archive.{number, stored, Told, AllTold}

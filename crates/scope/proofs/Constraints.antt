@@ -16,7 +16,8 @@ use Rattle.task.specs.Ast.{Sort, Pred, Constraint, Constraints}
 use Rattle.task.specs.Decode.{Res, got, refuse, bind, number, many, name, dec_sort, dec_pred, dec_constraint}
 use Rattle.task.specs.Fault.{lower, unless, each, sort_fault}
 use Rattle.task.specs.Scope.{pred_scope, constraint_names}
-use Rattle.task.specs.Node.{number_of, constraint_of, ConstraintAt}
+use Rattle.task.specs.Node.{constraint_of, ConstraintAt}
+use Rattle.task.specs.Refusals.{number_of}
 use Rattle.task.proofs.Nodes.{constraint_at}
 use Rattle.task.proofs.Covering.{forward, covers_many, covers_less, covers_number}
 use Rattle.task.proofs.Pieces.{each_covers, wide_names}

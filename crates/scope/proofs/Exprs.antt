@@ -19,7 +19,8 @@ use Rattle.task.specs.Covers.{Covers}
 use Rattle.task.specs.Decode.{Res, got, refuse, give, ◌▹◌, number, many, counted, name, binder, given, dec_expr}
 use Rattle.task.specs.Fault.{lower, each, binder_fault, given_fault}
 use Rattle.task.specs.Scope.{known_fault, expr_scope}
-use Rattle.task.specs.Node.{number_of, expr_of, ExprBehind, ExprAt}
+use Rattle.task.specs.Node.{expr_of, ExprBehind, ExprAt}
+use Rattle.task.specs.Refusals.{number_of}
 use Rattle.task.proofs.Judging.{sound_lower}
 use Rattle.task.proofs.Nodes.{expr_at}
 use Rattle.task.proofs.Covering.{forward, covers_many, covers_number}

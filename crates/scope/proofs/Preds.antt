@@ -18,7 +18,8 @@ use Rattle.task.specs.Ast.{Expr, Exprs, Pred}
 use Rattle.task.specs.Decode.{Res, got, refuse, bind, number, many, name, dec_expr, dec_pred}
 use Rattle.task.specs.Fault.{each}
 use Rattle.task.specs.Scope.{Globals, exprs_number, arguments_fault, pred_scope}
-use Rattle.task.specs.Node.{Bytes, number_of, pred_of, PredAt}
+use Rattle.task.specs.Node.{Bytes, pred_of, PredAt}
+use Rattle.task.specs.Refusals.{number_of}
 use Rattle.task.proofs.Nodes.{pred_at}
 use Rattle.item_check.proofs.Walks.{many_size}
 use Rattle.task_check.specs.Walk.{walked, after}

@@ -10,7 +10,8 @@ use borrow.Author.Tests.{lt-ltb, le-leb}
 use Rattle.task.specs.declared.Fault.{Fault}
 use Rattle.task.specs.declared.Fault.TheVariants.{Sound}
 use Rattle.task.specs.declared.Refusal.{Refusal}
-use Rattle.task.specs.Node.{number_of, read_of}
+use Rattle.task.specs.Node.{read_of}
+use Rattle.task.specs.Refusals.{number_of}
 use Rattle.task.specs.Covers.{Covers}
 use Rattle.task.specs.Decode.{Res, got, refuse, Decoder, many, name}
 use Rattle.task.specs.Fault.{lower}

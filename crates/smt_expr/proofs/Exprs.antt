@@ -19,7 +19,8 @@ use Rattle.task.specs.declared.ExprNode.TheVariants as expr_node
 use Rattle.task.specs.Ast.{Sort, Constant, Expr, Exprs}
 use Rattle.task.specs.Decode.{Res, got, refuse, bind, number, many, binder, given, dec_sort, dec_expr}
 use Rattle.task.specs.Fault.{given_fault, expr_fault}
-use Rattle.task.specs.Node.{Bytes, number_of, expr_of, ExprAt}
+use Rattle.task.specs.Node.{Bytes, expr_of, ExprAt}
+use Rattle.task.specs.Refusals.{number_of}
 use Rattle.task.proofs.Reading.{bind_got}
 use Rattle.task.proofs.Nodes.{expr_at}
 use Rattle.task_check.specs.Walk.{walked}

@@ -13,7 +13,8 @@ use Rattle.task.specs.declared.PredNode.{PredNode}
 use Rattle.task.specs.declared.PredNode.TheVariants as pred_node
 use Rattle.task.specs.Ast.{Sorts, Exprs, Pred}
 use Rattle.task.specs.Decode.{Res, got, refuse, bind, number, many, name, binder, dec_sort, dec_expr, dec_pred, data_ctor, datatype, constant, function, kvar, deepest}
-use Rattle.task.specs.Node.{Bytes, number_of, pred_of, PredAt}
+use Rattle.task.specs.Node.{Bytes, pred_of, PredAt}
+use Rattle.task.specs.Refusals.{number_of}
 use Rattle.task.proofs.Nodes.{pred_at}
 use Rattle.smt_text.specs.Encoder.{Encoder}
 use Rattle.smt_text.specs.Text.{spaced, sexp_list, write_name, write_parameter, write_sort, write_expr, write_pred, write_ctor, write_ctors, write_parameters, write_datatype_decl, write_const_decl, write_fun_def, write_kvar_decl}

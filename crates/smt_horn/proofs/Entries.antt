@@ -1,7 +1,7 @@
 -- What the steps of the calls add up to.
 use Rattle.std.specs.Prelude.{Result, Ok, Err}
 use Rattle.task.specs.declared.Refusal.{Refusal}
-use Rattle.task.specs.Node.{number_of}
+use Rattle.task.specs.Refusals.{number_of}
 use mathlib.Core.Path.{◌≡◌, refl, sym, ap, ◌∙◌}
 use mathlib.Core.Bool.{Bool, true, false, cond}
 use mathlib.Core.List.{List, [], ◌∷◌, ◌++◌, map}

@@ -1,7 +1,7 @@
 -- The answers of the calls in the terms of document 01, "What each call says no to": the values of an answer, or the number of its refusal.
 use Rattle.std.specs.Prelude.{ℕ, Result, Ok, Err, [], ◌∷◌}
 use Rattle.task.specs.declared.Refusal.{Refusal}
-use Rattle.task.specs.Node.{number_of}
+use Rattle.task.specs.Refusals.{number_of}
 use Rattle.horn_text.specs.Answers.{Answer, values, refused}
 use Rattle.smt_horn.specs.declared.Sizes.{Sizes}
 

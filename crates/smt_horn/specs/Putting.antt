@@ -1,7 +1,7 @@
 -- What is put of a task by a call, in an edition. Only contracts of inner functions speak of it.
 use Rattle.std.specs.Prelude.{Result, Ok, Err, cond, ◌≡◌, List, [], ◌∷◌, ℕ, leb, length}
 use Rattle.task.specs.declared.Refusal.{Refusal}
-use Rattle.task.specs.Node.{number_of}
+use Rattle.task.specs.Refusals.{number_of}
 use Rattle.task.specs.Ast.{Task}
 use Rattle.task.specs.Decode.{got, refuse}
 use Rattle.task.specs.Task.{task_of, heads_of}

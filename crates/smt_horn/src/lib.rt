@@ -171,6 +171,7 @@ fn write_parts(
 }
 
 // The numbers of parts and of assertions, the length of the script and that of its longest part; or the refusal.
+#[tactic(auto, using(crate::proofs::Entries::was_refused, crate::proofs::Entries::survey_refused))]
 pub fn survey(file: &[u8], edition: Edition) -> Result<Sizes, Refusal>
     ensures { surveyed result ≡ survey_answer (names_of edition) file.now }
 {

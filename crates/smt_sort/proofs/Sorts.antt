@@ -13,7 +13,8 @@ use Rattle.task.specs.declared.SortNode.TheVariants as sort_node_is
 use Rattle.task.specs.Ast.{SortCtor, Sort, Sorts}
 use Rattle.task.specs.Decode.{got, refuse, bind, many, name, binder, dec_sort}
 use Rattle.task.specs.Fault.{sorts_fault}
-use Rattle.task.specs.Node.{Bytes, number_of, sort_of, SortAt}
+use Rattle.task.specs.Node.{Bytes, sort_of, SortAt}
+use Rattle.task.specs.Refusals.{number_of}
 use Rattle.task.proofs.Nodes.{sort_at}
 use Rattle.task_check.specs.Walk.{walked}
 use Rattle.task_check.proofs.Rows.{next_is, refused_is}

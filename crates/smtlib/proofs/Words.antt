@@ -14,6 +14,7 @@ use lib.Seq.{take_at, drop_at}
 use borrow.Author.Tests.{eqb-false, leb-true, leb-false, le-leb}
 use lib.Pointwise.{pointwise}
 use Rattle.std.specs.List.{list_all, list_any}
+use Rattle.std.proofs.lemmas.List.{take_all}
 use Rattle.std.specs.declared.slice.ChunksExact.{ChunksExact}
 use Rattle.std.specs.Iterator.{AlwaysYields}
 use Rattle.std.proofs.lemmas.Iterator.{YieldsList}
@@ -27,6 +28,16 @@ use Rattle.smtlib.proofs.Entries.{value_at}
 
 pub same_lengths : (a b : List ℕ) → (length a ≡ length b → ⊥) → false ≡ same a b
 same_lengths a b n = sym (never (same a b) (λ t. n (ap length (same→eq a b t))))
+
+-- of two slices of one length one begins with the other only if they are the same
+pub prefix_same : (r : Bool) (a b : List ℕ) → length a ≡ length b → r ≡ pointwise eqb a (take (length a) b) → r ≡ same a b
+prefix_same r a b l e = e ∙ rw (take_all (length a) b (omega arith)) (go a b)
+  where
+    go : (x y : List ℕ) → pointwise eqb x y ≡ same x y
+    go [] [] = refl
+    go [] (c ∷ y) = refl
+    go (a ∷ x) [] = refl
+    go (a ∷ x) (c ∷ y) = ap (λ (z : Bool). eqb a c && z) (go x y)
 
 -- in_row
 

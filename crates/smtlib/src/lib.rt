@@ -18,6 +18,7 @@ pub fn is_symbol(word: &[u8]) -> bool
 }
 
 // Whether two slices hold the same bytes.
+#[tactic(auto, using(crate::proofs::Words::same_lengths, crate::proofs::Words::prefix_same))]
 pub fn same_bytes(a: &[u8], b: &[u8]) -> bool
     ensures { result ≡ same a.now b.now }
 {

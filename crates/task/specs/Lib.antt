@@ -7,5 +7,6 @@ pub mod Returns
 pub mod Covers
 pub mod Laws
 pub mod Names
+pub mod Refusals
 pub mod Node
 pub mod Run

@@ -1,9 +1,8 @@
--- What the code's answers stand for: the number of each refusal, of which the customers' promises speak too, and the decoder's answer that each
--- read is, of which only contracts of inner functions speak.
+-- What the code's answers stand for: the decoder's answer that each read is. Only contracts of inner functions speak of it.
 use Rattle.std.specs.Borrow.{Bor}
 use Rattle.std.specs.Prelude.{Result, Ok, Err, ℕ, ◌+◌, ◌*◌, ◌^◌, ◌≤◌, List, [], ◌∷◌, ◌≡◌, get_or}
 use Rattle.task.specs.declared.Refusal.{Refusal}
-use Rattle.task.specs.declared.Refusal.TheVariants.{Trailer, Piece, Level, Text, NoConstructors, Arity, Shadowed, Part, Room, Unknown, Arguments, BitVecWidth, Unqualified, WKVar, Clash}
+use Rattle.task.specs.Refusals.{number_of}
 use Rattle.task.specs.declared.SortNode.{SortNode}
 use Rattle.task.specs.declared.SortNode.TheVariants as sort_node_is
 use Rattle.task.specs.declared.ExprNode.{ExprNode}
@@ -14,24 +13,6 @@ use Rattle.task.specs.declared.ConstraintNode.{ConstraintNode}
 use Rattle.task.specs.declared.ConstraintNode.TheVariants as constraint_node
 use Rattle.task.specs.Ast.{SortCtor, Sort, Sorts, Constant, Expr, Exprs, Pred, Constraint, Constraints}
 use Rattle.task.specs.Decode.{Res, got, refuse, Decoder, give, refusal, ◌▹◌, many, counted, name, coded, given, binder, dec_sort, dec_pred, sort_forms, expr_forms, pred_forms, constraint_forms}
-
--- the number of each refusal
-abbrev pub number_of : Refusal → ℕ
-number_of Trailer = 1
-number_of Piece = 2
-number_of Level = 3
-number_of Text = 4
-number_of NoConstructors = 5
-number_of Arity = 6
-number_of Shadowed = 7
-number_of Part = 8
-number_of Room = 9
-number_of Unknown = 10
-number_of Arguments = 11
-number_of BitVecWidth = 12
-number_of Unqualified = 13
-number_of WKVar = 14
-number_of Clash = 15
 
 -- what stands at a position with the position behind it, or the refusal
 abbrev pub Answered : Type 0 → Type 0

@@ -4,7 +4,8 @@
 ghost use Rattle.std.specs.Prelude.{◌≡◌, ◌≤◌, List, get_or};
 ghost use Rattle.task.specs.Decode.{Decoder, refusal, raw, number, name, text, coded, flags, bin_ops, bin_rels, thy_funcs, quantifiers};
 ghost use Rattle.task.specs.Fault.{lower};
-ghost use Rattle.task.specs.Node.{number_of, read_of, halves_of, text_of, SortForm, SortAt, ExprForm, ExprAt, PredForm, PredAt, ConstraintAt};
+ghost use Rattle.task.specs.Node.{read_of, halves_of, text_of, SortForm, SortAt, ExprForm, ExprAt, PredForm, PredAt, ConstraintAt};
+ghost use Rattle.task.specs.Refusals.{number_of};
 
 // The theory functions, in the source's order of declaration; a function's place is its code.
 #[derive(Clone, Copy)]
@@ -139,7 +140,8 @@ impl From<Refusal> for u8 {
     }
 }
 
-// What stands at a position with the position behind it, or why it is refused.
+// What stands at a position with the position behind it, or why it is refused. Every function here that answers one is compiled into its callers: an answer
+// that is handed back in memory is stored part by part, all parts that the largest node has, and a copy of it waits for these stores.
 pub type Read<T> = Result<(T, usize), Refusal>;
 
 // The node of a sort: what stands in front of the sorts in it.
@@ -210,6 +212,7 @@ pub trait Coded: Sized {
 
 // The n bytes at a position.
 #[tactic(auto, using(crate::proofs::Reading::raw_fits, crate::proofs::Reading::raw_short))]
+#[inline(always)]
 fn bytes_at(s: &[u8], at: usize, n: usize) -> Read<&[u8]>
     ensures { raw n s.now at ≡ text_of result }
 {
@@ -222,6 +225,7 @@ fn bytes_at(s: &[u8], at: usize, n: usize) -> Read<&[u8]>
 
 // The byte at a position.
 #[tactic(auto, using(crate::proofs::Reading::byte_fits, crate::proofs::Reading::byte_short))]
+#[inline(always)]
 fn byte_at(s: &[u8], at: usize) -> Read<u8>
     ensures { number 1 s.now at ≡ read_of result }
 {
@@ -230,6 +234,7 @@ fn byte_at(s: &[u8], at: usize) -> Read<u8>
 }
 
 // The number in k bytes, the low one first.
+#[inline(always)]
 pub fn number_at(s: &[u8], at: usize, k: usize) -> Read<u64>
     requires { k ≤ 8 }
     ensures { number k s.now at ≡ read_of result }
@@ -244,6 +249,7 @@ pub fn number_at(s: &[u8], at: usize, k: usize) -> Read<u64>
 
 // The number in 16 bytes, the low one first.
 #[tactic(auto, using(crate::proofs::Numbers::halves, crate::proofs::Numbers::low_short, crate::proofs::Numbers::high_short))]
+#[inline(always)]
 pub fn halves_at(s: &[u8], at: usize) -> Read<(u64, u64)>
     ensures { number 16 s.now at ≡ halves_of result }
 {
@@ -253,6 +259,7 @@ pub fn halves_at(s: &[u8], at: usize) -> Read<(u64, u64)>
 }
 
 // A name.
+#[inline(always)]
 pub fn read_name(s: &[u8], at: usize) -> Read<&[u8]>
     ensures { name s.now at ≡ text_of result }
 {
@@ -264,6 +271,7 @@ pub fn read_name(s: &[u8], at: usize) -> Read<&[u8]>
 }
 
 // A text: a comment, or what stands in a string.
+#[inline(always)]
 pub fn read_text(s: &[u8], at: usize) -> Read<&[u8]>
     ensures { text s.now at ≡ text_of result }
 {
@@ -272,6 +280,7 @@ pub fn read_text(s: &[u8], at: usize) -> Read<&[u8]>
 }
 
 // What has a code at a position.
+#[inline(always)]
 pub fn read_coded<T: Coded>(s: &[u8], at: usize) -> Read<T>
     ensures { coded T.codes s.now at ≡ read_of result }
 {
@@ -385,6 +394,7 @@ impl Coded for ThyFunc {
 
 // Behind code 11 of a sort: a name and a count.
 #[tactic(auto, unfolding(crate::specs::Decode::sort_forms, crate::specs::Node::SortForm, crate::specs::Node::SortAt, crate::specs::Node::sort_of))]
+#[inline(always)]
 fn data_node(s: &[u8], at: usize) -> Read<SortNode>
     ensures { SortForm 11 s.now at result }
 {
@@ -395,6 +405,7 @@ fn data_node(s: &[u8], at: usize) -> Read<SortNode>
 
 // The node of a sort.
 #[tactic(auto, unfolding(crate::specs::Decode::sort_forms, crate::specs::Node::SortForm, crate::specs::Node::SortAt, crate::specs::Node::sort_of))]
+#[inline(always)]
 pub fn read_sort_node(s: &[u8], at: usize) -> Read<SortNode>
     ensures { SortAt s.now at result }
 {
@@ -431,6 +442,7 @@ impl Coded for Quantifier {
 
 // Behind code 4: 16 bytes and a width.
 #[tactic(auto, using(crate::proofs::Behind::number_behind), unfolding(crate::specs::Decode::expr_forms, crate::specs::Node::expr_of))]
+#[inline(always)]
 fn bit_vec_node(s: &[u8], at: usize) -> Read<ExprNode>
     ensures { ExprForm 4 s.now at result }
 {
@@ -441,6 +453,7 @@ fn bit_vec_node(s: &[u8], at: usize) -> Read<ExprNode>
 
 // Behind code 20: which quantifier, and a count.
 #[tactic(auto, using(crate::proofs::Behind::quantifier_behind, crate::proofs::Behind::number_behind), unfolding(crate::specs::Decode::expr_forms, crate::specs::Node::expr_of))]
+#[inline(always)]
 fn quantifier_node(s: &[u8], at: usize) -> Read<ExprNode>
     ensures { ExprForm 20 s.now at result }
 {
@@ -451,6 +464,7 @@ fn quantifier_node(s: &[u8], at: usize) -> Read<ExprNode>
 
 // The node of an expression.
 #[tactic(auto, using(crate::proofs::Behind::byte_behind, crate::proofs::Behind::number_behind, crate::proofs::Behind::name_behind, crate::proofs::Behind::text_behind, crate::proofs::Behind::flag_behind, crate::proofs::Behind::op_behind, crate::proofs::Behind::rel_behind, crate::proofs::Behind::func_behind), unfolding(crate::specs::Decode::expr_forms, crate::specs::Node::expr_of))]
+#[inline(always)]
 pub fn read_expr_node(s: &[u8], at: usize) -> Read<ExprNode>
     ensures { ExprAt s.now at result }
 {
@@ -483,6 +497,7 @@ pub fn read_expr_node(s: &[u8], at: usize) -> Read<ExprNode>
 
 // Behind code 0 of a predicate: a name and a count.
 #[tactic(auto, using(crate::proofs::Behind::name_behind, crate::proofs::Behind::number_behind), unfolding(crate::specs::Node::pred_of))]
+#[inline(always)]
 fn kvar_node(s: &[u8], at: usize) -> Read<PredNode>
     ensures { PredForm 0 s.now at result }
 {
@@ -493,6 +508,7 @@ fn kvar_node(s: &[u8], at: usize) -> Read<PredNode>
 
 // The node of a predicate.
 #[tactic(auto, using(crate::proofs::Behind::byte_behind), unfolding(crate::specs::Node::pred_of))]
+#[inline(always)]
 pub fn read_pred_node(s: &[u8], at: usize) -> Read<PredNode>
     ensures { PredAt s.now at result }
 {
@@ -506,6 +522,7 @@ pub fn read_pred_node(s: &[u8], at: usize) -> Read<PredNode>
 
 // The node of a constraint.
 #[tactic(auto, using(crate::proofs::Behind::byte_behind, crate::proofs::Behind::number_behind), unfolding(crate::specs::Node::constraint_of))]
+#[inline(always)]
 pub fn read_constraint_node(s: &[u8], at: usize) -> Read<ConstraintNode>
     ensures { ConstraintAt s.now at result }
 {

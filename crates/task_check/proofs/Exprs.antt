@@ -15,7 +15,8 @@ use Rattle.task.specs.Ast.{Sort, Constant, Expr, Exprs}
 use Rattle.task.specs.Decode.{Res, got, refuse, bind, give, ◌▹◌, number, many, counted, name, binder, given, dec_sort, dec_expr}
 use Rattle.task.specs.Fault.{lower, each, name_fault, sort_fault, binder_fault, is_given, given_fault, expr_fault, exprs_fault}
 use Rattle.task.specs.declared.Refusal.{Refusal}
-use Rattle.task.specs.Node.{number_of, expr_of, ExprAt}
+use Rattle.task.specs.Node.{expr_of, ExprAt}
+use Rattle.task.specs.Refusals.{number_of}
 use Rattle.task.proofs.Judging.{lower_assoc, sound_lower}
 use Rattle.task.proofs.Nodes.{expr_at}
 use Rattle.task_check.specs.declared.ExprParts.{ExprParts}

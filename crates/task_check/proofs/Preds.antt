@@ -18,7 +18,8 @@ use Rattle.task.specs.Decode.{Res, got, refuse, bind, Decoder, refusal, number, 
 use Rattle.task.specs.Fault.{name_fault, expr_fault, exprs_fault, pred_fault}
 use Rattle.task.specs.Task.{is_true, literally_true}
 use Rattle.task.specs.declared.Refusal.{Refusal}
-use Rattle.task.specs.Node.{Answered, Bytes, number_of, pred_of, PredAt}
+use Rattle.task.specs.Node.{Answered, Bytes, pred_of, PredAt}
+use Rattle.task.specs.Refusals.{number_of}
 use Rattle.task.proofs.Judging.{sound_lower}
 use Rattle.task.proofs.Nodes.{pred_at}
 use Rattle.task.proofs.Reading.{le_or_lt, coded_short, coded_at}

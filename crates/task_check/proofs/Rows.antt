@@ -7,7 +7,8 @@ use native.Mathlib.Omega.{arith}
 use Rattle.task.specs.declared.Fault.{Fault}
 use Rattle.task.specs.declared.Fault.TheVariants.{Sound}
 use Rattle.task.specs.declared.Refusal.{Refusal}
-use Rattle.task.specs.Node.{number_of, read_of}
+use Rattle.task.specs.Node.{read_of}
+use Rattle.task.specs.Refusals.{number_of}
 use Rattle.task.specs.Decode.{Res, got, refuse, bind, Decoder, give, ◌▹◌, many}
 use Rattle.task.specs.Fault.{lower}
 use Rattle.task.proofs.Reading.{bind_got, got_refuse}

@@ -11,7 +11,8 @@ use Rattle.task.specs.Ast.{SortCtor, Sort, Sorts}
 use Rattle.task.specs.Decode.{Res, got, refuse, bind, Decoder, give, ◌▹◌, many, dec_sort}
 use Rattle.task.specs.Fault.{lower, name_fault, width_fault, sort_fault, sorts_fault}
 use Rattle.task.specs.declared.Refusal.{Refusal}
-use Rattle.task.specs.Node.{number_of, sort_of, SortAt}
+use Rattle.task.specs.Node.{sort_of, SortAt}
+use Rattle.task.specs.Refusals.{number_of}
 use Rattle.task.proofs.Judging.{lower_assoc, sound_lower}
 use Rattle.task.proofs.Nodes.{sort_at}
 use Rattle.task_check.specs.declared.SortParts.{SortParts}

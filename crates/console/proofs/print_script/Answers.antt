@@ -21,4 +21,4 @@ pub returns-in-Ok : goal.returns-in-Ok
 returns-in-Ok c = print_task _ _ _ (edition_is _ _ c.in-Ok.ensures.1 Z3 _ c.set_edition.ensures) c.print_task.ensures
 
 pub returns-in-Err : goal.returns-in-Err
-returns-in-Err c = print_none _ _ _ (task_refused _ _ c.in-Err.ensures.0) c.print_refused.ensures
+returns-in-Err c = print_none _ _ _ (task_refused _ _ c.in-Err.ensures.0) c.print_refusal.ensures

@@ -18,4 +18,4 @@ pub returns-in_err-declarations : goal.returns-in_err-declarations
 returns-in_err-declarations c = let h = pieces_refused _ _ c.in_ok-b.ensures _ c.in_err-declarations.ensures in search rules
 
 pub returns : goal.returns
-returns c = pieces_judged _ _ c.in_ok-b.ensures _ _ c.in_ok-declarations.ensures _ _ c.in_ok-counted.ensures _ c.if-p-end.false (rw c.lower.ensures at c.judge.ensures)
+returns c = pieces_judged _ _ c.in_ok-b.ensures _ _ c.in_ok-declarations.ensures _ _ c.in_ok-counted.ensures _ (omega arith) (rw c.lower.ensures at c.judge.ensures)
